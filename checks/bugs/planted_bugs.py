@@ -23,7 +23,7 @@ ROOT = HERE.parents[1]
 SYMBOLIZER = "pdb_symbolizer_tests"
 RUNS = {name: SYMBOLIZER for name in (
     "pdb_symbolizer_lib", "pdb_answer_printer", "pdb_symbolication", "pdb_session", "pdb_identity", "identity.rt",
-    "block_reads.rt", "excerpt.rt", "stream_map.rt", "type_places.rt")}
+    "block_reads.rt", "stream_subset.rt", "msf_layout.rt", "type_places.rt")}
 READERS = "pdb_container_tests"
 
 

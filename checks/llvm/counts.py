@@ -24,17 +24,21 @@ LEAF = re.compile(r"\s*0x[0-9A-F]+ \| (LF_\w+)")
 INLINEE = re.compile(r"\s*0x[0-9A-F]+ \| +\d+ \| ")
 BLOCK = re.compile(r"\s*(\d+):([0-9A-F]+)-([0-9A-F]+), line/(?:column/)?addr entries = \d+")
 ROW = re.compile(r"(NSI|ASI|\d+|\?+) ([0-9A-F]{8})")
-PROCEDURES = {"S_GPROC32", "S_LPROC32", "S_GPROC32_ID", "S_LPROC32_ID", "S_LPROC32_DPC", "S_LPROC32_DPC_ID"}
+PROCEDURES = {"S_GPROC32", "S_LPROC32", "S_GPROC32_ID", "S_LPROC32_ID", "S_LPROC32_DPC", "S_LPROC32_DPC_ID",
+              "S_GPROCIA64", "S_LPROCIA64", "S_GMANPROC", "S_LMANPROC"}
 KINDS = {"InlineSite": {"S_INLINESITE", "S_INLINESITE2"}, "Procedure": PROCEDURES, "SeparatedCode": {"S_SEPCODE"},
          "Thunk": {"S_THUNK32"}}
 TYPES = {
-    "ArgumentList": {"LF_ARGLIST"}, "Array": {"LF_ARRAY"}, "Class": {"LF_CLASS", "LF_INTERFACE", "LF_STRUCTURE"},
-    "Enumeration": {"LF_ENUM"}, "MemberFunction": {"LF_MFUNCTION"}, "Modifier": {"LF_MODIFIER"},
-    "Other": {"LF_BITFIELD", "LF_FIELDLIST", "LF_METHODLIST", "LF_VFTABLE"}, "Pointer": {"LF_POINTER"},
+    "ArgumentList": {"LF_ARGLIST"}, "Array": {"LF_ARRAY", "LF_DIMARRAY"},
+    "Class": {"LF_CLASS", "LF_INTERFACE", "LF_STRUCTURE"}, "Enumeration": {"LF_ALIAS", "LF_ENUM"},
+    "MemberFunction": {"LF_MFUNCTION"}, "Modifier": {"LF_MODIFIER"},
+    "Other": {"LF_BITFIELD", "LF_FIELDLIST", "LF_METHODLIST", "LF_VFTABLE", "LF_VTSHAPE"}, "Pointer": {"LF_POINTER"},
     "Procedure": {"LF_PROCEDURE"}, "Union": {"LF_UNION"}}
 IDS = {"Function": {"LF_FUNC_ID"}, "MemberFunction": {"LF_MFUNC_ID"}, "Other": {"LF_BUILDINFO", "LF_UDT_SRC_LINE"},
        "String": {"LF_STRING_ID"}, "StringList": {"LF_SUBSTR_LIST"}}
 LISTS = {"types": TYPES, "ids": IDS}
+# Below the first index of a record stand the types that the compiler brings, of which no record says anything
+FIRST = 0x1000
 
 
 def dump(option, pdb):
@@ -137,8 +141,7 @@ def recorded(records, starts):
              "section contributions": len(items(debug["section_contributions"])),
              "sections": len(records["sections"] or [])}
     for name, kinds in LISTS.items():
-        found = [item.get("kind") for item in items(records[f"{name[:-1]}_information"])]
-        found = [kind for kind in found if kind != "Primitive"]
+        found = [item.get("kind") for item in items(records[f"{name[:-1]}_information"]) if item["index"] >= FIRST]
         whole[name] = len(found)
         whole |= by_kind(name, len(found), {kind: found.count(kind) for kind in kinds})
     modules = enumerate(records["module_infos"])

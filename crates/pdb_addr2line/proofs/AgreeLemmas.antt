@@ -8,11 +8,11 @@ use Rattle.pdb_records.specs.Addresses.{rva, rva_of, numbered_section}
 use Rattle.pdb_records.specs.Names.{lossy}
 use Rattle.pdb_records.specs.declared.addresses.AddressRange.{AddressRange}
 use Rattle.pdb_records.specs.declared.addresses.Rva.{Rva}
-use Rattle.pdb_errors.specs.Provided.{ProviderInfos}
+use Rattle.pdb_records.specs.Provided.{ProviderInfos}
 use Rattle.pdb_functions.specs.GlobalFunctions.{GlobalFunction}
-use Rattle.pdb_functions.specs.FoundFunctions.{FoundFunction, found_procedure, found_global, next_global}
+use Rattle.pdb_functions.specs.FunctionMatches.{FunctionMatch, found_procedure, found_global, next_global}
 use Rattle.pdb_frames.specs.Frame.{FramesInfo}
-use Rattle.pdb_functions.specs.FoundFunctions.{function_start}
+use Rattle.pdb_functions.specs.FunctionMatches.{function_start}
 use Rattle.pdb_addr2line.specs.FrameLaws.{Agree}
 use Rattle.pdb_function_info.specs.Frames.{function_size}
 use Rattle.pdb_function_info.specs.Function.{FunctionInfo, info_of, global_end, sum_in_32_bits}
@@ -84,7 +84,7 @@ global_ends sections globals f start end starts ends = by_next (next_global f.st
       (rw section starts) found.1 ∙ found.2
 
 -- the function info of a function by where it starts and ends and by its name
-pub record IsInfoOf {P : Type 0} (info : P → ProviderInfos) (s : ContextInputs P) (found : FoundFunction)
+pub record IsInfoOf {P : Type 0} (info : P → ProviderInfos) (s : ContextInputs P) (found : FunctionMatch)
     (start : Rva) (f : FunctionInfo) : Type 0 where
   pub start_rva : start.0 ≡ f.start_rva
   pub end_rva : option_and_then (sum_in_32_bits start.0) (function_size (global_functions_of s) found) ≡ f.end_rva
@@ -99,7 +99,7 @@ some_same : {A : Type 0} {x y : A} → Some x ≡ Some y → x ≡ y
 some_same e = cc
 
 -- the function info of a function that starts here
-is_info_of : {P : Type 0} (info : P → ProviderInfos) (s : ContextInputs P) (found : FoundFunction) (start : Rva)
+is_info_of : {P : Type 0} (info : P → ProviderInfos) (s : ContextInputs P) (found : FunctionMatch) (start : Rva)
     (f : FunctionInfo)
     → rva s.address_map (function_start found) ≡ Some start
     → info_of info s.type_inputs s.address_map (global_functions_of s) found ≡ Some f → IsInfoOf info s found start f

@@ -15,8 +15,8 @@ use Rattle.pdb_errors.specs.declared.error.Error.{Error}
 use Rattle.pdb_errors.specs.declared.error.Error.TheVariants.{PdbError}
 use Rattle.pdb_errors.specs.Outcomes.{and_then, unless, streamed}
 use Rattle.pdb_types.specs.TypeInputs.{link_inputs}
-use Rattle.pdb_errors.specs.Provided.{ProviderInfos}
-use Rattle.pdb_functions.specs.FoundFunctions.{FoundFunction, found_procedure, found_global}
+use Rattle.pdb_records.specs.Provided.{ProviderInfos}
+use Rattle.pdb_functions.specs.FunctionMatches.{FunctionMatch, found_procedure, found_global}
 use Rattle.pdb_frames.specs.CodeParts.{CodeParts, unsuccessful_code, has_code_failed}
 use Rattle.pdb_frames.specs.declared.code_parts.CodePart.{CodePart}
 use Rattle.pdb_frames.specs.declared.code_parts.CodePart.TheVariants as part
@@ -24,15 +24,15 @@ use Rattle.pdb_frames.specs.ExtendedInfo.{extended_info}
 use Rattle.pdb_records.specs.Addresses.{rva, internal_offset}
 use Rattle.pdb_records.specs.Lines.{lines_at}
 use Rattle.pdb_frames.specs.Lines.{read_whole, function_rows, function_row}
-use Rattle.pdb_frames.specs.Origins.{origin, function_ranges}
-use Rattle.pdb_functions.specs.FoundFunctions.{function_start, function_module}
-use Rattle.pdb_documents.specs.Documents.{Failure, failure_error, Run}
-use Rattle.pdb_documents.specs.Ids.{id_of_index}
-use Rattle.pdb_documents.specs.Printed.{signature_run, id_run}
-use Rattle.pdb_documents.specs.Signatures.{signature}
-use Rattle.pdb_documents.specs.PrintInputs.{formatter_inputs}
-use Rattle.pdb_documents.proofs.DocumentLemmas.{document-unfolds}
-use Rattle.pdb_documents.proofs.UnfoldingLemmas.{print_inputs-below}
+use Rattle.pdb_frames.specs.CodeLocations.{code_location, function_ranges}
+use Rattle.pdb_functions.specs.FunctionMatches.{function_start, function_module}
+use Rattle.pdb_type_texts.specs.Documents.{PrintError, failure_error, Run}
+use Rattle.pdb_type_texts.specs.Ids.{id_of_index}
+use Rattle.pdb_type_texts.specs.Printed.{signature_run, id_run}
+use Rattle.pdb_type_texts.specs.Signatures.{signature}
+use Rattle.pdb_type_texts.specs.PrintInputs.{formatter_inputs}
+use Rattle.pdb_type_texts.proofs.DocumentLemmas.{document-unfolds}
+use Rattle.pdb_type_texts.proofs.UnfoldingLemmas.{print_inputs-below}
 use Rattle.pdb_function_info.specs.Frames.{function_frames}
 use Rattle.pdb_function_info.specs.NameTexts.{function_name, id_name}
 use Rattle.pdb_addr2line.specs.Calls.{TextView, answer_to, answers_to, after_call, printed, text_unless}
@@ -91,13 +91,13 @@ refused_row : (program : Lines) (start : PdbInternalSectionOffset) (x : ℕ)
 refused_row program start x = refused_in_steps (function_rows program start) _ (refused_rows program start) (λ rows. tt)
 
 -- the ranges of a function's code
-refused_ranges : (inlinees : List IdIndex) (info : ModuleInfo) (found : FoundFunction)
+refused_ranges : (inlinees : List IdIndex) (info : ModuleInfo) (found : FunctionMatch)
     → IsRefusedByCode (function_ranges inlinees info found)
 refused_ranges inlinees info (found_global m f) = tt
 refused_ranges inlinees info (found_procedure m p) = refused_by_fault _ _
 
 -- where code comes from
-refused_origin : (info : ModuleInfo) (found : FoundFunction) (x : ℕ) → IsRefusedByCode (origin info found x)
+refused_origin : (info : ModuleInfo) (found : FunctionMatch) (x : ℕ) → IsRefusedByCode (code_location info found x)
 refused_origin info found x =
     refused_in_steps (extended_info info) _ (refused_info info) (λ known.
     refused_in_steps (function_row known.line_program (function_start found) x) _
@@ -106,11 +106,11 @@ refused_origin info found x =
     (λ ranges. tt)))
 
 -- the frames of a function
-refused_frames : (strings : _) (name_of : _) (name : _) (records : Option ModuleInfo) (found : FoundFunction) (x : ℕ)
+refused_frames : (strings : _) (name_of : _) (name : _) (records : Option ModuleInfo) (found : FunctionMatch) (x : ℕ)
     → IsRefusedByCode (function_frames strings name_of name records found x)
 refused_frames strings name_of name None found x = tt
 refused_frames strings name_of name (Some info) found x =
-    refused_in_steps (origin info found x) _ (refused_origin info found x) (λ o. tt)
+    refused_in_steps (code_location info found x) _ (refused_origin info found x) (λ o. tt)
 
 -- what is made of something that may be absent
 refused_option : {A B : Type 0} (r : Result B Error) (o : Option A) (next : A → Result B Error)
@@ -120,7 +120,7 @@ refused_option : {A B : Type 0} (r : Result B Error) (o : Option A) (next : A �
 refused_option r o next absent is some none = rw is (refused_where_there o next absent some none)
 
 -- the frames of a function that was found
-refused_found : {P : Type 0} (info : P → ProviderInfos) (s : ContextInputs P) (x : ℕ) (found : FoundFunction)
+refused_found : {P : Type 0} (info : P → ProviderInfos) (s : ContextInputs P) (x : ℕ) (found : FunctionMatch)
     → IsRefusedByCode (frames_of info s x found)
 refused_found info s x found =
     let name_of = id_name info s.type_inputs (function_module found) in
@@ -160,10 +160,10 @@ refused_as_answered failed (Some p) (Err e) refused =
     either_error (has_code_failed failed p) (unsuccessful_code p) e (refused_part p) refused
 
 -- a text that was printed, or the error in its place
-printed_or_refused : (r : Run) → ((failure : Failure) → r.fault ≡ Some failure → IsPrintError (failure_error failure))
+printed_or_refused : (r : Run) → ((failure : PrintError) → r.fault ≡ Some failure → IsPrintError (failure_error failure))
     → HoldsErrorOfRecords (TextView (printed r))
 printed_or_refused r refused = by_fault r.fault refl where
-  by_fault : (fault : Option Failure) → r.fault ≡ fault → HoldsErrorOfRecords (TextView (text_unless fault r.text))
+  by_fault : (fault : Option PrintError) → r.fault ≡ fault → HoldsErrorOfRecords (TextView (text_unless fault r.text))
   by_fault None is = tt
   by_fault (Some failure) is = refused failure is
 

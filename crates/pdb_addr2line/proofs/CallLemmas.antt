@@ -3,21 +3,21 @@ use Rattle.std.proofs.Common.{◌≡◌, ◌∙◌, ℕ, List, [], ◌∷◌, sy
 use Rattle.std.specs.Prelude.{Option, Some, None, Result, Ok, Err, map, option_map}
 use Rattle.std.specs.Result.{result_ok}
 use Rattle.pdb_types.specs.FailedParts.{Parts}
-use Rattle.pdb_errors.specs.Provided.{ProviderInfos}
+use Rattle.pdb_records.specs.Provided.{ProviderInfos}
 use Rattle.pdb_errors.specs.declared.error.Error.{Error}
 use Rattle.pdb_frames.specs.CodeParts.{CodeParts}
 use Rattle.pdb_frames.specs.Frame.{FramesInfo}
 use Rattle.pdb_frames.specs.declared.code_parts.CodePart.{CodePart}
-use Rattle.pdb_documents.specs.Documents.{Failure, Document, run}
-use Rattle.pdb_documents.specs.Ids.{id_of_index}
-use Rattle.pdb_documents.specs.Printed.{document_of}
-use Rattle.pdb_documents.specs.Signatures.{signature}
-use Rattle.pdb_documents.specs.PrintInputs.{formatter_inputs}
+use Rattle.pdb_type_texts.specs.Documents.{PrintError, Document, run}
+use Rattle.pdb_type_texts.specs.Ids.{id_of_index}
+use Rattle.pdb_type_texts.specs.Printed.{document_of}
+use Rattle.pdb_type_texts.specs.Signatures.{signature}
+use Rattle.pdb_type_texts.specs.PrintInputs.{formatter_inputs}
 use Rattle.pdb_addr2line.specs.Calls.{AnswerView, FramesView, TextView, answer_to, after_call, answers_to, printed}
 use Rattle.pdb_addr2line.specs.Calls.{text_unless, successful, fresh}
 use Rattle.pdb_addr2line.specs.declared.calls.Call.{Call}
 use Rattle.pdb_addr2line.specs.declared.calls.Call.TheVariants.{FindFrames, Functions, FormatFunction, FormatId}
-use Rattle.pdb_addr2line.specs.Functions.{start_addresses}
+use Rattle.pdb_addr2line.specs.FunctionIter.{start_addresses}
 use Rattle.pdb_addr2line.specs.Lookups.{frames_at, frames_answered, blamed_at, answered_refusal}
 use Rattle.pdb_function_info.specs.NameTexts.{faultless}
 use Rattle.pdb_addr2line.specs.ContextInputs.{ContextState}
@@ -31,7 +31,7 @@ ok_of_answered failed part (Ok answer) = refl
 ok_of_answered failed part (Err e) = refl
 
 -- a text that was printed is the text of the run
-text_of_printed : (fault : Option Failure) (text : List ℕ) → result_ok (text_unless fault text) ≡ faultless fault text
+text_of_printed : (fault : Option PrintError) (text : List ℕ) → result_ok (text_unless fault text) ≡ faultless fault text
 text_of_printed None text = refl
 text_of_printed (Some failure) text = refl
 

@@ -3,8 +3,8 @@ use Rattle.std.proofs.Common.{◌≡◌, ℕ, Option, Some, None, sym, subst}
 use Rattle.std.specs.Prelude.{IfSome, option_and_then}
 use Rattle.pdb_records.specs.Addresses.{internal_offset}
 use Rattle.pdb_records.specs.declared.addresses.PdbInternalSectionOffset.{PdbInternalSectionOffset}
-use Rattle.pdb_errors.specs.Provided.{ProviderInfos}
-use Rattle.pdb_functions.specs.FoundFunctions.{FoundFunction, function_over}
+use Rattle.pdb_records.specs.Provided.{ProviderInfos}
+use Rattle.pdb_functions.specs.FunctionMatches.{FunctionMatch, function_over}
 use Rattle.pdb_functions.specs.SymbolNames.{GoesBySymbol}
 use Rattle.pdb_functions.proofs.SymbolLemmas.{over_by_symbol}
 use Rattle.pdb_addr2line.specs.Lookups.{found_at}
@@ -12,7 +12,7 @@ use Rattle.pdb_addr2line.specs.ContextInputs.{ContextInputs, contributions_of, g
 
 -- what lies over a section offset
 pub over_goes_by_symbol : {P : Type 0} (info : P → ProviderInfos) (s : ContextInputs P)
-    (section_offset : PdbInternalSectionOffset) (found : FoundFunction)
+    (section_offset : PdbInternalSectionOffset) (found : FunctionMatch)
     → Some found ≡ function_over (info s.provider) s.type_inputs.modules (contributions_of s)
     (global_functions_of s) section_offset
     → GoesBySymbol (info s.provider) s.type_inputs.modules found
@@ -22,7 +22,7 @@ over_goes_by_symbol info s section_offset found is =
 
 -- what lies over an address
 pub at_goes_by_symbol : {P : Type 0} (info : P → ProviderInfos) (s : ContextInputs P) (address : ℕ)
-    (found : FoundFunction) → Some found ≡ found_at info s address
+    (found : FunctionMatch) → Some found ≡ found_at info s address
     → GoesBySymbol (info s.provider) s.type_inputs.modules found
 at_goes_by_symbol info s address found is =
     subst (λ o. IfSome o (GoesBySymbol (info s.provider) s.type_inputs.modules)) (sym is)

@@ -8,12 +8,12 @@ use Rattle.pdb_records.specs.declared.addresses.Rva.{Rva}
 use Rattle.pdb_records.specs.declared.ids.IdIndex.{IdIndex}
 use Rattle.pdb_records.specs.declared.modules.ModuleInfo.{ModuleInfo}
 use Rattle.pdb_errors.specs.Outcomes.{and_then}
-use Rattle.pdb_errors.specs.Provided.{ProviderInfos}
+use Rattle.pdb_records.specs.Provided.{ProviderInfos}
 use Rattle.pdb_errors.specs.declared.error.Error.{Error}
 use Rattle.pdb_functions.specs.GlobalFunctions.{GlobalFunction}
-use Rattle.pdb_functions.specs.FoundFunctions.{FoundFunction, function_module, function_start}
+use Rattle.pdb_functions.specs.FunctionMatches.{FunctionMatch, function_module, function_start}
 use Rattle.pdb_frames.specs.Frame.{FrameInfo, FramesInfo}
-use Rattle.pdb_frames.specs.Origins.{origin}
+use Rattle.pdb_frames.specs.CodeLocations.{code_location}
 use Rattle.pdb_addr2line.specs.FrameLaws.{EndIn}
 use Rattle.pdb_function_info.specs.Frames.{Strings, own_frame, inlined_frames, function_frames, function_size}
 use Rattle.pdb_function_info.specs.Function.{sum_in_32_bits}
@@ -40,14 +40,14 @@ and_then-some f (Some a) b is = (a, refl, is)
 and_then-some f None b is = absurd cc
 
 -- the frames of a function that was found
-abbrev pub found_frames : {P : Type 0} → (P → ProviderInfos) → ContextInputs P → ℕ → FoundFunction
+abbrev pub found_frames : {P : Type 0} → (P → ProviderInfos) → ContextInputs P → ℕ → FunctionMatch
     → Result (List FrameInfo) Error
 found_frames info s x found =
     function_frames s.strings (id_name info s.type_inputs (function_module found))
     (function_name info s.type_inputs (global_functions_of s) found) (records_of info s found) found x
 
 -- the frames info with these frames of a function that starts here
-abbrev pub frames_info_with : List GlobalFunction → FoundFunction → Rva → List FrameInfo → FramesInfo
+abbrev pub frames_info_with : List GlobalFunction → FunctionMatch → Rva → List FrameInfo → FramesInfo
 frames_info_with globals found start frames = record {
   start_rva = start.0;
   end_rva = option_and_then (sum_in_32_bits start.0) (function_size globals found);
@@ -55,7 +55,7 @@ frames_info_with globals found start frames = record {
 }
 
 -- the frames info of a function, by where it starts and by its frames
-pub record AreFramesOf {P : Type 0} (info : P → ProviderInfos) (s : ContextInputs P) (x : ℕ) (found : FoundFunction)
+pub record AreFramesOf {P : Type 0} (info : P → ProviderInfos) (s : ContextInputs P) (x : ℕ) (found : FunctionMatch)
     (frames_info : FramesInfo) : Type 0 where
   pub start : Rva
   pub starts : rva s.address_map (function_start found) ≡ Some start
@@ -65,7 +65,7 @@ pub record AreFramesOf {P : Type 0} (info : P → ProviderInfos) (s : ContextInp
       (function_size (global_functions_of s) found)
 
 -- the frames info of a function has a start and frames
-are_frames_of : {P : Type 0} (info : P → ProviderInfos) (s : ContextInputs P) (x : ℕ) (found : FoundFunction)
+are_frames_of : {P : Type 0} (info : P → ProviderInfos) (s : ContextInputs P) (x : ℕ) (found : FunctionMatch)
     (frames_info : FramesInfo)
     → frames_of info s x found ≡ Ok (Some frames_info) → AreFramesOf info s x found frames_info
 are_frames_of {P = P} info s x found frames_info answered =
@@ -85,7 +85,7 @@ are_frames_of {P = P} info s x found frames_info answered =
 -- the frames info over an address is that of the function over it, at the address's offset
 pub frames_info_at : {P : Type 0} (info : P → ProviderInfos) (s : ContextInputs P) (address : ℕ)
     (section_offset : PdbInternalSectionOffset)
-    (found : FoundFunction) (frames_info : FramesInfo)
+    (found : FunctionMatch) (frames_info : FramesInfo)
     → internal_offset s.address_map (record { 0 = address }) ≡ Some section_offset
     → found_at info s address ≡ Some found
     → frames_at info s address ≡ Ok (Some frames_info) → AreFramesOf info s section_offset.offset found frames_info
@@ -95,13 +95,13 @@ frames_info_at info s address section_offset found frames_info lies over answere
 
 -- the frames of a function end in the one that has its name
 pub end_in_own : (strings : Strings) (name_of : IdIndex → Option (List ℕ)) (name : Option (List ℕ))
-    (records : Option ModuleInfo) (found : FoundFunction) (x : ℕ) (frames : List FrameInfo)
+    (records : Option ModuleInfo) (found : FunctionMatch) (x : ℕ) (frames : List FrameInfo)
     → function_frames strings name_of name records found x ≡ Ok frames → EndIn frames name
 end_in_own strings name_of name None found x frames are =
     let alone : FrameInfo = record { function = name; file = None; line = None } in
     record { inner = []; own = alone; split = cc; named = refl }
 end_in_own strings name_of name (Some info) found x frames are =
-    let here = and_then-ok (origin info found x) _ frames are in
+    let here = and_then-ok (code_location info found x) _ frames are in
     record {
       inner = reverse (inlined_frames strings here.0.line_program name_of here.0.stack);
       own = own_frame strings name here.0.line_program here.0.row;
@@ -111,7 +111,7 @@ end_in_own strings name_of name (Some info) found x frames are =
 
 -- the frames info over an address is that at some offset
 pub frames_info_somewhere : {P : Type 0} (info : P → ProviderInfos) (s : ContextInputs P) (address : ℕ)
-    (found : FoundFunction) (frames_info : FramesInfo) → found_at info s address ≡ Some found
+    (found : FunctionMatch) (frames_info : FramesInfo) → found_at info s address ≡ Some found
     → frames_at info s address ≡ Ok (Some frames_info) → (x : ℕ) × AreFramesOf info s x found frames_info
 frames_info_somewhere {P = P} info s address found frames_info over answered =
     by_section_offset (internal_offset s.address_map (record { 0 = address })) refl
@@ -125,7 +125,7 @@ frames_info_somewhere {P = P} info s address found frames_info over answered =
 
 -- the frames over an address end in the one that has the name of the function over it
 pub ended_in_name : {P : Type 0} (info : P → ProviderInfos) (s : ContextInputs P) (address : ℕ)
-    (found : FoundFunction) (frames_info : FramesInfo) → found_at info s address ≡ Some found
+    (found : FunctionMatch) (frames_info : FramesInfo) → found_at info s address ≡ Some found
     → frames_at info s address ≡ Ok (Some frames_info)
     → EndIn frames_info.frames (function_name info s.type_inputs (global_functions_of s) found)
 ended_in_name info s address found frames_info over answered =

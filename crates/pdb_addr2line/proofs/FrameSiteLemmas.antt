@@ -10,8 +10,8 @@ use Rattle.pdb_records.specs.declared.error.StreamError.{StreamError}
 use Rattle.pdb_records.specs.declared.ids.IdIndex.{IdIndex}
 use Rattle.pdb_records.specs.declared.modules.ModuleInfo.{ModuleInfo}
 use Rattle.pdb_errors.specs.Outcomes.{and_then, streamed}
-use Rattle.pdb_errors.specs.Provided.{ProviderInfos}
-use Rattle.pdb_functions.specs.FoundFunctions.{found_procedure}
+use Rattle.pdb_records.specs.Provided.{ProviderInfos}
+use Rattle.pdb_functions.specs.FunctionMatches.{found_procedure}
 use Rattle.pdb_functions.specs.Procedures.{ModuleProcedure}
 use Rattle.pdb_inline.specs.InlineRanges.{inline_ranges}
 use Rattle.pdb_inline.specs.InlineStacks.{inline_stack, IsSoleOver}
@@ -22,7 +22,7 @@ use Rattle.pdb_inline.proofs.NestingLemmas.{procedure_nested}
 use Rattle.pdb_frames.specs.ExtendedInfo.{ExtendedInfo, inlinee_ids, extended_info}
 use Rattle.pdb_frames.specs.Frame.{FrameInfo, FramesInfo}
 use Rattle.pdb_frames.specs.Lines.{read_whole}
-use Rattle.pdb_frames.specs.Origins.{Origin, origin}
+use Rattle.pdb_frames.specs.CodeLocations.{CodeLocation, code_location}
 use Rattle.pdb_addr2line.specs.FrameLaws.{sites_of, AreNestedFrames}
 use Rattle.pdb_function_info.specs.Frames.{Strings, own_frame, inlined_frame, function_frames}
 use Rattle.pdb_addr2line.specs.Lookups.{found_at, frames_at, records_of}
@@ -47,8 +47,8 @@ known_program info known is = by_stream info.line_program refl is where
 
 -- where the code of a procedure comes from: its line program is the module's, and its stack that of the procedure's
 -- ranges
-origin_of_procedure : (info : ModuleInfo) (m : ℕ) (p : ModuleProcedure) (x : ℕ) (o : Origin)
-    → origin info (found_procedure m p) x ≡ Ok o
+origin_of_procedure : (info : ModuleInfo) (m : ℕ) (p : ModuleProcedure) (x : ℕ) (o : CodeLocation)
+    → code_location info (found_procedure m p) x ≡ Ok o
     → (info.line_program ≡ Ok o.line_program) ×
     (o.stack ≡ inline_stack (inline_ranges (inlinee_ids info.inlinees.items) (sites_of info p)) x)
 origin_of_procedure info m p x o is =
@@ -58,7 +58,7 @@ origin_of_procedure info m p x o is =
     let ids = known_inlinees info parts.0 parts.2 in
     (known_program info parts.0 parts.2 ∙ ap (λ (lines : Lines). Ok lines) parts.4, rw (← parts.5, ← all, ids) refl)
 
--- counted from outside, behind the function's own frame, each frame is that of an entry of the stack
+-- counted from outside, after the function's own frame, each frame is that of an entry of the stack
 frame_of_entry : (f : InlineRange → FrameInfo) (own : FrameInfo) (stack : List InlineRange) (frames : List FrameInfo)
     (level : ℕ) (frame : FrameInfo) → frames ≡ reverse (map f stack) ++ own ∷ []
     → slice_get (reverse frames) (level + 1) ≡ Some frame
@@ -79,7 +79,7 @@ nested_frames : (strings : Strings) (name_of : IdIndex → Option (List ℕ)) (n
     → slice_get (reverse frames) (level + 1) ≡ Some frame → slice_get (reverse frames) (level + 2) ≡ Some inner_frame
     → AreNestedFrames strings name_of info p x level frame inner_frame
 nested_frames strings name_of name info m p x frames level frame inner_frame is sole first second =
-    let here = and_then-ok (origin info (found_procedure m p) x) _ frames is in
+    let here = and_then-ok (code_location info (found_procedure m p) x) _ frames is in
     let o = here.0 in
     let origin_is = origin_of_procedure info m p x o here.1 in
     let ids = inlinee_ids info.inlinees.items in

@@ -4,8 +4,8 @@ use Rattle.std.specs.Prelude.{Result, Ok, Err, OnErr}
 use Rattle.std.proofs.lemmas.List.{take_more}
 use Rattle.std.proofs.lemmas.List.Elements.{filter_map-append}
 use Rattle.std.proofs.lemmas.List.Sums.{fold-append}
-use Rattle.pdb_errors.specs.Provided.{ProviderInfos}
-use Rattle.pdb_addr2line.specs.Functions.{functions_at, after_function, after_functions, OnlyGainsBroken, IsCutShort}
+use Rattle.pdb_records.specs.Provided.{ProviderInfos}
+use Rattle.pdb_addr2line.specs.FunctionIter.{functions_at, after_function, after_functions, OnlyGainsBroken, IsCutShort}
 use Rattle.pdb_addr2line.specs.Lookups.{function_at}
 use Rattle.pdb_addr2line.specs.ContextInputs.{ContextInputs, ContextState}
 

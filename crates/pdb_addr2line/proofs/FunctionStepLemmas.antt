@@ -8,10 +8,10 @@ use Rattle.std.proofs.lemmas.List.Elements.{filter_map-append}
 use Rattle.std.proofs.lemmas.List.Sums.{fold-append}
 use Rattle.pdb_errors.specs.declared.error.Error.{Error}
 use Rattle.pdb_errors.specs.declared.error.Error.TheVariants.{OutOfMemory}
-use Rattle.pdb_errors.specs.Provided.{ProviderInfos}
+use Rattle.pdb_records.specs.Provided.{ProviderInfos}
 use Rattle.pdb_function_info.specs.declared.function.Function.{Function}
 use Rattle.pdb_function_info.specs.Function.{function_view}
-use Rattle.pdb_addr2line.specs.Functions.{after_function, OnlyGainsBroken}
+use Rattle.pdb_addr2line.specs.FunctionIter.{after_function, OnlyGainsBroken}
 use Rattle.pdb_addr2line.specs.FunctionSteps.{Passes, Continues}
 use Rattle.pdb_addr2line.specs.Lookups.{function_at}
 use Rattle.pdb_addr2line.specs.ContextInputs.{ContextState}

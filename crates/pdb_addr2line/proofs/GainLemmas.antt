@@ -4,12 +4,12 @@ use Rattle.std.specs.List.{AllByRecursion}
 use Rattle.std.specs.Prelude.{Result, Ok, Err, OnOk}
 use Rattle.pdb_types.specs.FailedParts.{Parts}
 use Rattle.pdb_types.specs.TypeInputs.{TypeInputs}
-use Rattle.pdb_errors.specs.Provided.{ProviderInfos}
+use Rattle.pdb_records.specs.Provided.{ProviderInfos}
 use Rattle.pdb_types.specs.declared.read_error.Part.{Part}
-use Rattle.pdb_documents.specs.BrokenParts.{IsBroken}
-use Rattle.pdb_documents.specs.PrintInputs.{formatter_inputs}
-use Rattle.pdb_documents.proofs.MetLemmas.{with_parts-append}
-use Rattle.pdb_addr2line.specs.Functions.{OnlyGainsBroken}
+use Rattle.pdb_type_texts.specs.BrokenParts.{IsBroken}
+use Rattle.pdb_type_texts.specs.PrintInputs.{formatter_inputs}
+use Rattle.pdb_type_texts.proofs.MetLemmas.{with_parts-append}
+use Rattle.pdb_addr2line.specs.FunctionIter.{OnlyGainsBroken}
 use Rattle.pdb_function_info.specs.NameTexts.{GainsBroken, GainsBrokenParts, IsBrokenForSome}
 use Rattle.pdb_addr2line.specs.ContextInputs.{ContextState}
 

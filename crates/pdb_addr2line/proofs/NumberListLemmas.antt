@@ -46,7 +46,7 @@ in_front x y xs (suc k, within, same) = inr (k, omega (arith, within), same)
 pub front : {X : Type 0} {x y : X} (xs : List X) → x ≡ y → Contains (x ∷ xs) y
 front xs same = (0, omega arith, same)
 
--- and so are those behind
+-- and so are those after
 pub behind : {X : Type 0} (x y : X) (xs : List X) → Contains xs y → Contains (x ∷ xs) y
 behind x y xs (k, within, same) = (suc k, omega (arith, within), same)
 

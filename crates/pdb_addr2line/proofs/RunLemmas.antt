@@ -2,13 +2,13 @@
 use Rattle.std.proofs.Common.{◌≡◌, ◌∙◌, ℕ, ◌+◌, ◌<◌, List, [], ◌∷◌, ◌++◌, length, take, drop, get_or, sym, ap}
 use Rattle.std.proofs.Common.{refl, append_assoc}
 use Rattle.std.proofs.lemmas.List.{take_more, take-append-drop, map-append}
-use Rattle.pdb_errors.specs.Provided.{ProviderInfos}
+use Rattle.pdb_records.specs.Provided.{ProviderInfos}
 use Rattle.pdb_addr2line.specs.Calls.{AnswerView, answer_view, Appends, StopsEarly, answer_to, answers_to, after_call}
 use Rattle.pdb_addr2line.specs.Calls.{after_calls}
 use Rattle.pdb_addr2line.specs.declared.calls.Answer.{Answer}
 use Rattle.pdb_addr2line.specs.declared.calls.Call.{Call}
 use Rattle.pdb_addr2line.specs.declared.calls.Call.TheVariants.{FindFunction}
-use Rattle.pdb_addr2line.specs.Functions.{OnlyGainsBroken}
+use Rattle.pdb_addr2line.specs.FunctionIter.{OnlyGainsBroken}
 use Rattle.pdb_addr2line.specs.ContextInputs.{ContextState}
 
 -- calls that are made one after the other are made together

@@ -15,13 +15,13 @@ use Rattle.pdb_records.specs.declared.addresses.Rva.{Rva}
 use Rattle.pdb_records.specs.declared.addresses.AddressRange.{AddressRange}
 use Rattle.pdb_records.specs.declared.addresses.PdbInternalSectionOffset.{PdbInternalSectionOffset}
 use Rattle.pdb_records.specs.declared.debug_information.Module.{Module}
-use Rattle.pdb_errors.specs.Provided.{ProviderInfos}
+use Rattle.pdb_records.specs.Provided.{ProviderInfos}
 use Rattle.pdb_functions.specs.GlobalFunctions.{GlobalFunction}
-use Rattle.pdb_functions.specs.FoundFunctions.{procedures_of_module}
+use Rattle.pdb_functions.specs.FunctionMatches.{procedures_of_module}
 use Rattle.pdb_functions.specs.Procedures.{ModuleProcedure, provided_procedures}
 use Rattle.pdb_addr2line.specs.FunctionLaws.{Ascend, IsProcedureStart, IsStart}
-use Rattle.pdb_addr2line.specs.Functions.{procedures_of_modules, start_section_offsets, with_start, with_starts}
-use Rattle.pdb_addr2line.specs.Functions.{start_addresses}
+use Rattle.pdb_addr2line.specs.FunctionIter.{procedures_of_modules, start_section_offsets, with_start, with_starts}
+use Rattle.pdb_addr2line.specs.FunctionIter.{start_addresses}
 use Rattle.pdb_addr2line.specs.ContextInputs.{ContextInputs, global_functions_of}
 use Rattle.pdb_addr2line.proofs.NumberListLemmas.{ascend_put, in_front, front, behind, put_cases, put_in, put_contains}
 
@@ -128,7 +128,7 @@ pub with_starts_append : (sections : List AddressRange) (starts : List ℕ) (xs 
     → with_starts sections starts (xs ++ ys) ≡ with_starts sections (with_starts sections starts xs) ys
 with_starts_append sections starts xs ys = fold-append (with_start sections) starts xs ys
 
--- the addresses of the procedures of a module, and then those of the modules behind it
+-- the addresses of the procedures of a module, and then those of the modules after it
 pub with_starts_of_module : (sections : List AddressRange) (starts : List ℕ) (infos : ProviderInfos) (at : ℕ)
     (m : Module) (ms : List Module)
     → with_starts sections starts (map (λ p. p.offset) (procedures_of_modules infos at (m ∷ ms)))

@@ -29,7 +29,7 @@ site inlinee end rows = record {
 abbrev pub other : Symbol
 other = record { raw_kind = 4430; content = Some Other }
 
--- the symbols of a procedure: a site without rows, inside it a site with the row, and behind both a third site with
+-- the symbols of a procedure: a site without rows, inside it a site with the row, and after both a third site with
 -- the same row
 abbrev pub own_row_beside_an_added_range : List Symbol
 own_row_beside_an_added_range =

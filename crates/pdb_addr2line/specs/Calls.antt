@@ -4,20 +4,20 @@ use Rattle.std.specs.Prelude.{string_bytes}
 use Rattle.std.specs.Result.{result_map_both, result_ok}
 use Rattle.pdb_errors.specs.Errors.{ErrorView, error_view}
 use Rattle.pdb_types.specs.FailedParts.{Parts, with_met}
-use Rattle.pdb_errors.specs.Provided.{ProviderInfos}
+use Rattle.pdb_records.specs.Provided.{ProviderInfos}
 use Rattle.pdb_types.specs.TypeSizes.{size_of}
 use Rattle.pdb_errors.specs.declared.error.Error.{Error}
 use Rattle.pdb_frames.specs.Frame.{FramesInfo}
-use Rattle.pdb_documents.specs.Documents.{Failure, failure_error, Run}
-use Rattle.pdb_documents.specs.Printed.{signature_run, id_run}
+use Rattle.pdb_type_texts.specs.Documents.{PrintError, failure_error, Run}
+use Rattle.pdb_type_texts.specs.Printed.{signature_run, id_run}
 use Rattle.pdb_addr2line.specs.declared.calls.Call.{Call}
 use Rattle.pdb_addr2line.specs.declared.calls.Call.TheVariants.{FindFunction, FindFrames, Functions}
 use Rattle.pdb_addr2line.specs.declared.calls.Call.TheVariants.{FunctionCount, TypeSize, FormatFunction, FormatId}
 use Rattle.pdb_addr2line.specs.declared.calls.Answer.{Answer}
 use Rattle.pdb_addr2line.specs.declared.calls.Answer.TheVariants as answer
 use Rattle.pdb_function_info.specs.Function.{FunctionInfo, function_view}
-use Rattle.pdb_addr2line.specs.Functions.{functions_of, after_function, start_addresses}
-use Rattle.pdb_addr2line.specs.Functions.{after_functions, OnlyGainsBroken}
+use Rattle.pdb_addr2line.specs.FunctionIter.{functions_of, after_function, start_addresses}
+use Rattle.pdb_addr2line.specs.FunctionIter.{after_functions, OnlyGainsBroken}
 use Rattle.pdb_addr2line.specs.Lookups.{function_at, frames_answered, failed_after_frames, code_failed_after}
 use Rattle.pdb_addr2line.specs.ContextInputs.{ContextState, ContextInputs, global_functions_of}
 
@@ -40,7 +40,7 @@ answer_view (answer.Size size) = SizeView size
 answer_view (answer.Text text) = TextView (result_map_both string_bytes error_view text)
 
 -- a text that was printed, or the error of the failure in its place
-abbrev pub text_unless : Option Failure → List ℕ → Result (List ℕ) ErrorView
+abbrev pub text_unless : Option PrintError → List ℕ → Result (List ℕ) ErrorView
 text_unless None text = Ok text
 text_unless (Some failure) text = Err (failure_error failure)
 

@@ -9,12 +9,12 @@ use Rattle.pdb_records.specs.declared.strings.StringRef.{StringRef}
 use Rattle.pdb_records.specs.declared.symbols.SymbolTable.{SymbolTable}
 use Rattle.pdb_errors.specs.declared.error.Error.{Error}
 use Rattle.pdb_errors.specs.declared.error.Error.TheVariants.{PdbError}
-use Rattle.pdb_functions.specs.declared.contributions.ModuleSectionContribution.{ModuleSectionContribution}
+use Rattle.pdb_functions.specs.declared.merged_contributions.ModuleSectionContribution.{ModuleSectionContribution}
 use Rattle.pdb_types.specs.FailedParts.{Parts}
 use Rattle.pdb_errors.specs.Outcomes.{unless, and_then}
 use Rattle.pdb_types.specs.TypeInputs.{TypeInputs}
 use Rattle.pdb_frames.specs.CodeParts.{CodeParts}
-use Rattle.pdb_functions.specs.Contributions.{merged_contributions}
+use Rattle.pdb_functions.specs.MergedContributions.{merged_contributions}
 use Rattle.pdb_functions.specs.GlobalFunctions.{GlobalFunction, global_functions}
 
 -- what a context was made of: records for look-ups, and the type inputs of its formatter, whose list of modules

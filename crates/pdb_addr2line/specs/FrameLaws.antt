@@ -3,7 +3,7 @@ use Rattle.std.specs.Prelude.{◌≡◌, ℕ, ◌+◌, List, [], ◌∷◌, ◌+
 use Rattle.pdb_records.specs.LinePrograms.{Lines}
 use Rattle.pdb_records.specs.declared.ids.IdIndex.{IdIndex}
 use Rattle.pdb_records.specs.declared.modules.ModuleInfo.{ModuleInfo}
-use Rattle.pdb_functions.specs.FoundFunctions.{FoundFunction, found_procedure, found_global}
+use Rattle.pdb_functions.specs.FunctionMatches.{FunctionMatch, found_procedure, found_global}
 use Rattle.pdb_functions.specs.Procedures.{ModuleProcedure}
 use Rattle.pdb_inline.specs.InlineStacks.{levels, lies_over, site_ranges, IsDirectlyInside}
 use Rattle.pdb_inline.specs.Sites.{Site, depth, walk}
@@ -19,7 +19,7 @@ sites_of info p = (walk info.symbols.items info.symbols.fault p.symbol_index.0 p
 
 -- at how many depths the rows of inline sites of a function cover an offset: at none where there are no records of its
 -- module, and at none in a global function
-abbrev pub levels_over : Option ModuleInfo → FoundFunction → ℕ → ℕ
+abbrev pub levels_over : Option ModuleInfo → FunctionMatch → ℕ → ℕ
 levels_over None found x = 0
 levels_over (Some info) (found_global m f) x = 0
 levels_over (Some info) (found_procedure m p) x =

@@ -2,9 +2,9 @@
 use Rattle.std.specs.Prelude.{◌≡◌, ◌⊎◌, ◌<◌, ℕ, List, [], ◌∷◌, Some, ⊤}
 use Rattle.std.specs.List.{AllByRecursion, Contains}
 use Rattle.pdb_records.specs.Addresses.{rva}
-use Rattle.pdb_errors.specs.Provided.{ProviderInfos}
+use Rattle.pdb_records.specs.Provided.{ProviderInfos}
 use Rattle.pdb_functions.specs.GlobalFunctions.{GlobalFunction}
-use Rattle.pdb_functions.specs.FoundFunctions.{procedures_of_module}
+use Rattle.pdb_functions.specs.FunctionMatches.{procedures_of_module}
 use Rattle.pdb_functions.specs.Procedures.{ModuleProcedure}
 use Rattle.pdb_addr2line.specs.ContextInputs.{ContextInputs, global_functions_of}
 

@@ -3,11 +3,11 @@ use Rattle.std.specs.Prelude.{◌≡◌, ℕ, List, [], ◌∷◌, ◌++◌, Opt
 use Rattle.std.specs.Vec.Iter.{into_iter_items}
 use Rattle.pdb_errors.specs.declared.error.Error.{Error}
 use Rattle.pdb_errors.specs.declared.error.Error.TheVariants.{OutOfMemory}
-use Rattle.pdb_errors.specs.Provided.{ProviderInfos}
+use Rattle.pdb_records.specs.Provided.{ProviderInfos}
 use Rattle.pdb_function_info.specs.declared.function.Function.{Function}
-use Rattle.pdb_addr2line.specs.declared.functions.FunctionIter.{FunctionIter}
+use Rattle.pdb_addr2line.specs.declared.function_iter.FunctionIter.{FunctionIter}
 use Rattle.pdb_function_info.specs.Function.{FunctionInfo, function_view}
-use Rattle.pdb_addr2line.specs.Functions.{functions_at, after_function, after_functions, OnlyGainsBroken}
+use Rattle.pdb_addr2line.specs.FunctionIter.{functions_at, after_function, after_functions, OnlyGainsBroken}
 use Rattle.pdb_addr2line.specs.Lookups.{function_at}
 use Rattle.pdb_addr2line.specs.ContextInputs.{ContextState}
 

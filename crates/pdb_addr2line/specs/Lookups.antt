@@ -5,11 +5,11 @@ use Rattle.pdb_records.specs.Addresses.{internal_offset}
 use Rattle.pdb_records.specs.declared.addresses.PdbInternalSectionOffset.{PdbInternalSectionOffset}
 use Rattle.pdb_records.specs.declared.modules.ModuleInfo.{ModuleInfo}
 use Rattle.pdb_types.specs.FailedParts.{Parts}
-use Rattle.pdb_errors.specs.Provided.{ProviderInfos}
-use Rattle.pdb_functions.specs.declared.contributions.ModuleSectionContribution.{ModuleSectionContribution}
+use Rattle.pdb_records.specs.Provided.{ProviderInfos}
+use Rattle.pdb_functions.specs.declared.merged_contributions.ModuleSectionContribution.{ModuleSectionContribution}
 use Rattle.pdb_functions.specs.Spans.{contribution_covers}
-use Rattle.pdb_functions.specs.FoundFunctions.{FoundFunction, function_over, function_module}
-use Rattle.pdb_functions.specs.ModuleInfos.{readable_info}
+use Rattle.pdb_functions.specs.FunctionMatches.{FunctionMatch, function_over, function_module}
+use Rattle.pdb_functions.specs.ModuleInfoCache.{readable_info}
 use Rattle.pdb_errors.specs.declared.error.Error.{Error}
 use Rattle.pdb_frames.specs.CodeParts.{CodeParts, part_to_blame, code_part_error, with_code_part}
 use Rattle.pdb_frames.specs.Frame.{FramesInfo}
@@ -26,7 +26,7 @@ contribution_at s address =
     option_and_then over (internal_offset s.address_map (record { 0 = address }))
 
 -- what lies over an address, by a plain scan of the records
-abbrev pub found_at : {P : Type 0} → (P → ProviderInfos) → ContextInputs P → ℕ → Option FoundFunction
+abbrev pub found_at : {P : Type 0} → (P → ProviderInfos) → ContextInputs P → ℕ → Option FunctionMatch
 found_at info s address =
     let found = function_over (info s.provider) s.type_inputs.modules (contributions_of s) (global_functions_of s) in
     option_and_then found (internal_offset s.address_map (record { 0 = address }))
@@ -39,16 +39,16 @@ function_at info s address =
 -- the parts that failed once that is answered, from those that failed before
 abbrev pub failed_after : {P : Type 0} → (P → ProviderInfos) → ContextInputs P → ℕ → Parts → Parts
 failed_after info s address failed =
-    let failed_by = λ (found : FoundFunction).
+    let failed_by = λ (found : FunctionMatch).
     failed_after_info info s.type_inputs s.address_map (global_functions_of s) found failed in
     option_map_or failed_by (found_at info s address) failed
 
 -- the records of the module that a function was found in, if there are any that can be read
-abbrev pub records_of : {P : Type 0} → (P → ProviderInfos) → ContextInputs P → FoundFunction → Option ModuleInfo
+abbrev pub records_of : {P : Type 0} → (P → ProviderInfos) → ContextInputs P → FunctionMatch → Option ModuleInfo
 records_of info s found = readable_info (info s.provider) s.type_inputs.modules (function_module found)
 
 -- the frames info of a function that was found, at an offset
-abbrev pub frames_of : {P : Type 0} → (P → ProviderInfos) → ContextInputs P → ℕ → FoundFunction
+abbrev pub frames_of : {P : Type 0} → (P → ProviderInfos) → ContextInputs P → ℕ → FunctionMatch
     → Result (Option FramesInfo) Error
 frames_of info s x found =
     info_of_frames info s.type_inputs s.strings s.address_map (global_functions_of s) (records_of info s found) found x
@@ -62,7 +62,7 @@ frames_at info s address =
     option_map_or at_section_offset (internal_offset s.address_map (record { 0 = address })) (Ok None)
 
 -- the parts that failed once a function's frames at an offset are answered
-abbrev pub failed_by_frames_of : {P : Type 0} → (P → ProviderInfos) → ContextInputs P → ℕ → Parts → FoundFunction
+abbrev pub failed_by_frames_of : {P : Type 0} → (P → ProviderInfos) → ContextInputs P → ℕ → Parts → FunctionMatch
     → Parts
 failed_by_frames_of info s x failed found =
     failed_by_frames info s.type_inputs s.address_map (global_functions_of s) (records_of info s found) found x failed
@@ -75,7 +75,7 @@ failed_after_frames info s address failed =
     option_map_or at_section_offset (internal_offset s.address_map (record { 0 = address })) failed
 
 -- the part that is to blame where the frames of a function that was found are refused, by the records of its module
-abbrev pub blamed_for : {P : Type 0} → (P → ProviderInfos) → ContextInputs P → FoundFunction → Option CodePart
+abbrev pub blamed_for : {P : Type 0} → (P → ProviderInfos) → ContextInputs P → FunctionMatch → Option CodePart
 blamed_for info s found = option_map (λ records. part_to_blame records found) (records_of info s found)
 
 -- the part that is to blame where the frames over an address are refused

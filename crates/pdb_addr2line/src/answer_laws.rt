@@ -9,7 +9,7 @@ ghost use Rattle.pdb_addr2line.specs.Calls.{answers_to};
 ghost use Rattle.pdb_addr2line.specs.ContextInputs.{ContextState};
 ghost use Rattle.pdb_addr2line.specs.declared.calls.Call.{Call};
 
-use pdb_errors::ModuleProvider;
+use pdb_records::ModuleProvider;
 
 /// Of a list of calls, an answer holds frames, a text, or in their place an error of the records or of printing,
 /// or that a part of the records failed before. It is never out of memory, and never a writer's refusal: these are the

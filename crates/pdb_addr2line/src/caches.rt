@@ -1,16 +1,15 @@
 //! What a context read of the records so far, so that it is read once: procedures, code, and where functions start.
 
 ghost use Rattle.std.specs.Prelude.{◌≡◌, Some, None, option_map, IfOk};
-ghost use Rattle.pdb_functions.specs.ModuleInfos.{readable_info};
-ghost use Rattle.pdb_functions.specs.FoundFunctions.{found_function, function_module};
+ghost use Rattle.pdb_functions.specs.ModuleInfoCache.{readable_info};
+ghost use Rattle.pdb_functions.specs.FunctionMatches.{function_match, function_module};
 ghost use Rattle.pdb_frames.specs.CodeCache.{IsCodeCache};
 ghost use Rattle.pdb_frames.specs.CodeCaches.{ModuleRecords};
 ghost use Rattle.pdb_frames.specs.CodeParts.{part_to_blame};
 
-use pdb_errors::ModuleProvider;
 use pdb_frames::{CodeCache, CodePart};
-use pdb_functions::{BasicModuleInfoCache, FoundFunction};
-use pdb_records::Module;
+use pdb_functions::{BasicModuleInfoCache, FunctionMatch};
+use pdb_records::{Module, ModuleProvider};
 use std::alloc::{AllocError, Global};
 
 // What a context read so far, so that it is read once. The names that it printed stand with its formatter.
@@ -44,12 +43,12 @@ impl<'a, P: ModuleProvider> Caches<'a, P> {
 pub(crate) fn part_blamed_by<'a, P: ModuleProvider>(
     caches: &mut Caches<'a, P>,
     modules: &[Module],
-    function: FoundFunction<'_>,
+    function: FunctionMatch<'_>,
 ) -> Result<Option<CodePart>, AllocError>
     ghost records: { ModuleRecords }
     requires records { records ≡ readable_info (P.info caches.old.infos.provider) modules.now }
     requires is_cache { IsCodeCache records caches.old.code }
-    ensures answer { let found = found_function function.entry in
+    ensures answer { let found = function_match function.entry in
         IfOk result (λ part. part
         ≡ option_map (λ info. part_to_blame info found) (records (function_module found))) }
     ensures is_cache { IsCodeCache records caches.new.code }

@@ -3,20 +3,22 @@
 ghost use Rattle.std.specs.Prelude.{◌≡◌, [], Ok, length, IfOk};
 ghost use Rattle.std.specs.Option.{option_copied};
 ghost use Rattle.pdb_errors.specs.Outcomes.{Gives};
-ghost use Rattle.pdb_functions.specs.Contributions.{merged_contributions};
+ghost use Rattle.pdb_functions.specs.MergedContributions.{merged_contributions};
 ghost use Rattle.pdb_functions.specs.GlobalFunctions.{global_functions as functions_listed};
 ghost use Rattle.pdb_addr2line.specs.ContextInputs.{searched_contributions, accepted, global_functions_of};
 
 use crate::caches::Caches;
-use pdb_errors::{Error, ModuleProvider, Result};
+use pdb_errors::{Error, Result};
 use pdb_frames::{FailedCodeParts, FileNames};
 use pdb_function_info::FunctionNames;
 use pdb_functions::{
     ContributionTable, GlobalFunctionTable, SectionTable, compute_global_functions,
     compute_section_contributions,
 };
-use pdb_records::{AddressMap, DebugInformation, ImageSectionHeader, StringTable, SymbolTable};
-use pdb_signatures::TypeFormatter;
+use pdb_records::{
+    AddressMap, DebugInformation, ImageSectionHeader, ModuleProvider, StringTable, SymbolTable,
+};
+use pdb_type_printer::TypeFormatter;
 use std::alloc::Global;
 use std::marker::Model;
 
@@ -103,11 +105,11 @@ impl<P: ModuleProvider> Drop for Context<'_, P> {
 impl<'a, P: ModuleProvider> Model for Context<'a, P> {
     ghost use Rattle.std.specs.Prelude.{◌≡◌, Ok, IfSome};
     ghost use Rattle.std.specs.Option.{option_copied};
-    ghost use Rattle.pdb_functions.specs.Contributions.{merged_contributions};
+    ghost use Rattle.pdb_functions.specs.MergedContributions.{merged_contributions};
     ghost use Rattle.pdb_functions.specs.GlobalFunctions.{global_functions as functions_listed};
-    ghost use Rattle.pdb_functions.specs.ModuleInfos.{readable_info};
+    ghost use Rattle.pdb_functions.specs.ModuleInfoCache.{readable_info};
     ghost use Rattle.pdb_frames.specs.CodeCache.{IsCodeCache};
-    ghost use Rattle.pdb_addr2line.specs.Functions.{start_addresses};
+    ghost use Rattle.pdb_addr2line.specs.FunctionIter.{start_addresses};
     ghost use Rattle.pdb_addr2line.specs.ContextInputs.{ContextState};
 
     ghost Value = { ContextState P };

@@ -1,7 +1,7 @@
 //! `ContextPdbData`, which holds the records of a program and makes contexts and formatters over them.
 
 ghost use Rattle.std.specs.Prelude.{◌≡◌, [], None, Some, IfOk};
-ghost use Rattle.pdb_errors.specs.Provided.{provided};
+ghost use Rattle.pdb_records.specs.Provided.{provided};
 ghost use Rattle.pdb_errors.specs.Outcomes.{Gives, Refuses};
 ghost use Rattle.pdb_addr2line.specs.ContextData.{records_refusal, formatter_refusal, sections_read, info_at};
 ghost use Rattle.pdb_addr2line.specs.ContextData.{default_flags, context_over, context_of, formatter_of};
@@ -10,9 +10,11 @@ ghost use Rattle.std.specs.Io.BufRead.{Rests};
 ghost use Rattle.pdb_records.specs.contracts.pdb.PDB.{the_row};
 
 use crate::context::Context;
-use pdb_errors::{Error, ModuleProvider, Result};
-use pdb_records::{DebugInformation, ImageSectionHeader, Module, ModuleInfo, PDB, StreamError};
-use pdb_signatures::TypeFormatter;
+use pdb_errors::{Error, Result};
+use pdb_records::{
+    DebugInformation, ImageSectionHeader, Module, ModuleInfo, ModuleProvider, PDB, StreamError,
+};
+use pdb_type_printer::TypeFormatter;
 use pdb_types::TypeFormatterFlags;
 use std::alloc::{AllocError, Global};
 use std::marker::Model;

@@ -3,10 +3,10 @@
 ghost use Rattle.std.specs.Prelude.{ℕ, ◌↔◌};
 ghost use Rattle.std.specs.List.{Contains};
 ghost use Rattle.pdb_addr2line.specs.FunctionLaws.{Ascend, IsStart};
-ghost use Rattle.pdb_addr2line.specs.Functions.{start_addresses};
+ghost use Rattle.pdb_addr2line.specs.FunctionIter.{start_addresses};
 ghost use Rattle.pdb_addr2line.specs.ContextInputs.{ContextInputs};
 
-use pdb_errors::ModuleProvider;
+use pdb_records::ModuleProvider;
 
 // Start addresses ascend, so each stands once.
 #[tactic(auto, using(crate::proofs::StartLemmas::starts_ascend))]

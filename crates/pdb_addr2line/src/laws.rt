@@ -6,7 +6,7 @@ ghost use Rattle.std.specs.Prelude.{◌≡◌, ℕ, ◌+◌, List, length, map, 
 ghost use Rattle.pdb_records.specs.Addresses.{internal_offset};
 ghost use Rattle.pdb_records.specs.declared.addresses.PdbInternalSectionOffset.{PdbInternalSectionOffset};
 ghost use Rattle.pdb_records.specs.declared.modules.ModuleInfo.{ModuleInfo};
-ghost use Rattle.pdb_functions.specs.FoundFunctions.{FoundFunction, found_procedure};
+ghost use Rattle.pdb_functions.specs.FunctionMatches.{FunctionMatch, found_procedure};
 ghost use Rattle.pdb_functions.specs.Procedures.{ModuleProcedure};
 ghost use Rattle.pdb_inline.specs.InlineStacks.{IsSoleOver};
 ghost use Rattle.pdb_frames.specs.ExtendedInfo.{inlinee_ids};
@@ -23,13 +23,6 @@ pub use crate::answer_laws::{
     answers_hold_errors_of_the_records, own_row_beside_an_added_range_is_outside,
 };
 pub use crate::function_laws::{start_addresses_are_all_starts, start_addresses_ascend};
-pub use pdb_documents::signature_laws::{
-    a_scope_that_repeats_is_circular, an_index_inside_itself_is_circular,
-    every_id_has_one_unfolding, every_signature_has_one_unfolding, every_type_has_one_unfolding,
-    siblings_may_repeat, text_does_not_depend_on_failed_parts,
-    the_document_of_a_signature_is_what_it_unfolds_to, the_document_of_an_id_is_what_it_unfolds_to,
-};
-use pdb_errors::ModuleProvider;
 pub use pdb_functions::lookup_laws::{
     contributions_are_refused_for, contributions_in_reading_order_stay,
     first_global_function_of_each_start_is_kept, first_procedure_of_each_start_is_kept,
@@ -51,12 +44,19 @@ pub use pdb_laws::picks::{
     global_function_starts_last, inlined_bodies_start_last, line_row_starts_last,
 };
 pub use pdb_laws::refusals::{ids_are_refused_for, signatures_are_refused_for};
+use pdb_records::ModuleProvider;
 pub use pdb_records::order_laws::{
     hash_of_indices_agrees_with_equality, order_of_indices_agrees_with_equality,
 };
 pub use pdb_tables::table_laws::{
     last_painted_gives_the_value, missing_runs_hold_what_is_missing, runs_are_determined,
     runs_of_ranges_hold_their_numbers,
+};
+pub use pdb_type_texts::signature_laws::{
+    a_scope_that_repeats_is_circular, an_index_inside_itself_is_circular,
+    every_id_has_one_unfolding, every_signature_has_one_unfolding, every_type_has_one_unfolding,
+    siblings_may_repeat, text_does_not_depend_on_failed_parts,
+    the_document_of_a_signature_is_what_it_unfolds_to, the_document_of_an_id_is_what_it_unfolds_to,
 };
 pub use pdb_types::size_laws::{
     chains_that_end_have_the_size_at_their_end, chains_that_never_end_have_no_size,
@@ -65,7 +65,7 @@ pub use pdb_types::size_laws::{
 
 /// Where frames are answered, there is at least one, and the last is that of the function over the address.
 pub fn frames_end_in_the_function<P: ModuleProvider>()
-    ensures { (s : ContextInputs P) (address : ℕ) (found : FoundFunction) (frames_info : FramesInfo)
+    ensures { (s : ContextInputs P) (address : ℕ) (found : FunctionMatch) (frames_info : FramesInfo)
         → found_at P.info s address ≡ Some found
         → frames_at P.info s address ≡ Ok (Some frames_info)
         → EndIn frames_info.frames (function_name P.info s.type_inputs (global_functions_of s) found) }
@@ -74,7 +74,7 @@ pub fn frames_end_in_the_function<P: ModuleProvider>()
 /// Where frames are answered, there is one for each depth at which the rows of inline sites of the function cover
 /// the address, and one more, that of the function itself. So no inlined body is left out.
 pub fn frames_have_all_levels<P: ModuleProvider>()
-    ensures { (s : ContextInputs P) (address : ℕ) (section_offset : PdbInternalSectionOffset) (found : FoundFunction)
+    ensures { (s : ContextInputs P) (address : ℕ) (section_offset : PdbInternalSectionOffset) (found : FunctionMatch)
         (frames_info : FramesInfo)
         → internal_offset s.address_map (record { 0 = address }) ≡ Some section_offset
         → found_at P.info s address ≡ Some found

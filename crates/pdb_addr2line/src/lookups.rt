@@ -5,9 +5,9 @@ ghost use Rattle.std.specs.Option.{option_copied};
 ghost use Rattle.pdb_errors.specs.Outcomes.{Gives};
 ghost use Rattle.pdb_errors.specs.declared.error.Error.TheVariants.{OutOfMemory};
 ghost use Rattle.pdb_records.specs.Addresses.{internal_offset};
-ghost use Rattle.pdb_functions.specs.FoundFunctions.{found_function, procedures_of_module};
-ghost use Rattle.pdb_functions.specs.FoundFunctions.{function_in_contribution, function_over};
-ghost use Rattle.pdb_functions.specs.ModuleInfos.{readable_info};
+ghost use Rattle.pdb_functions.specs.FunctionMatches.{function_match, procedures_of_module};
+ghost use Rattle.pdb_functions.specs.FunctionMatches.{function_in_contribution, function_over};
+ghost use Rattle.pdb_functions.specs.ModuleInfoCache.{readable_info};
 ghost use Rattle.pdb_functions.specs.Procedures.{module_procedure};
 ghost use Rattle.pdb_functions.specs.Spans.{contribution_covers, procedure_covers};
 ghost use Rattle.pdb_functions.specs.SymbolNames.{GoesBySymbol};
@@ -16,7 +16,7 @@ ghost use Rattle.pdb_function_info.specs.NameTexts.{GainsBroken};
 ghost use Rattle.pdb_function_info.specs.Function.{function_view, info_of, failed_after_info};
 ghost use Rattle.pdb_addr2line.specs.ContextInputs.{contributions_of, global_functions_of};
 ghost use Rattle.pdb_function_info.specs.Frames.{ButForMemory};
-ghost use Rattle.pdb_addr2line.specs.Functions.{after_function, OnlyGainsBroken};
+ghost use Rattle.pdb_addr2line.specs.FunctionIter.{after_function, OnlyGainsBroken};
 ghost use Rattle.pdb_addr2line.specs.Lookups.{contribution_at, found_at, function_at};
 ghost use Rattle.pdb_addr2line.specs.Lookups.{frames_of, failed_by_frames_of, failed_after_frames};
 ghost use Rattle.pdb_addr2line.specs.Lookups.{records_of, blamed_for, answered_refusal, failed_by_refusal};
@@ -24,13 +24,13 @@ ghost use Rattle.pdb_addr2line.specs.Lookups.{frames_answered, code_failed_after
 
 use crate::caches::part_blamed_by;
 use crate::context::Context;
-use pdb_errors::{Error, ModuleProvider, Result};
+use pdb_errors::{Error, Result};
 use pdb_frames::{CodePart, FunctionFrames};
 use pdb_function_info::{Function, frames_info, function_info};
 use pdb_functions::{
-    FoundFunction, ModuleSectionContribution, ProcedureSymbolFunction, global_function_in,
+    FunctionMatch, ModuleSectionContribution, ProcedureSymbolFunction, global_function_in,
 };
-use pdb_records::{ModuleInfo, PdbInternalSectionOffset, Rva};
+use pdb_records::{ModuleInfo, ModuleProvider, PdbInternalSectionOffset, Rva};
 use pdb_tables::Probes;
 
 impl<'a, P: ModuleProvider> Context<'a, P> {
@@ -102,20 +102,20 @@ impl<'a, P: ModuleProvider> Context<'a, P> {
     // refuses them is remembered.
     fn frames_answer(
         &mut self,
-        found: FoundFunction<'a>,
+        found: FunctionMatch<'a>,
         offset: u32,
     ) -> Result<Option<FunctionFrames<'a>>>
         requires named { GoesBySymbol (P.info self.old.inputs.provider) self.old.inputs.type_inputs.modules
-            (found_function found) }
-        ensures answer { let blamed = blamed_for P.info self.old.inputs (found_function found.entry) in
+            (function_match found) }
+        ensures answer { let blamed = blamed_for P.info self.old.inputs (function_match found.entry) in
             Gives (λ f. f) result (answered_refusal self.old.code_failed blamed
-            (frames_of P.info self.old.inputs offset (found_function found.entry))) }
+            (frames_of P.info self.old.inputs offset (function_match found.entry))) }
         ensures inputs { self.new.inputs ≡ self.old.inputs }
         ensures failed { ButForMemory result (self.new.failed
-            ≡ failed_by_frames_of P.info self.old.inputs offset self.old.failed (found_function found.entry)) }
-        ensures code_failed { let blamed = blamed_for P.info self.old.inputs (found_function found.entry) in
+            ≡ failed_by_frames_of P.info self.old.inputs offset self.old.failed (function_match found.entry)) }
+        ensures code_failed { let blamed = blamed_for P.info self.old.inputs (function_match found.entry) in
             ButForMemory result (self.new.code_failed ≡ failed_by_refusal self.old.code_failed blamed
-            (frames_of P.info self.old.inputs offset (found_function found.entry))) }
+            (frames_of P.info self.old.inputs offset (function_match found.entry))) }
         ensures unchanged { IfErr result (λ e. e ≡ OutOfMemory → self.new.code_failed ≡ self.old.code_failed) }
         ensures broken { GainsBroken P.info self.old.inputs.type_inputs self.old.failed self.new.failed }
     {
@@ -131,9 +131,9 @@ impl<'a, P: ModuleProvider> Context<'a, P> {
 
     // The part that is to blame where the frames of a function that was found are refused, by the records of its
     // module.
-    fn part_blamed(&mut self, found: FoundFunction<'a>) -> Result<Option<CodePart>>
+    fn part_blamed(&mut self, found: FunctionMatch<'a>) -> Result<Option<CodePart>>
         ensures answer { MatchResult result
-            (λ part. part ≡ blamed_for P.info self.old.inputs (found_function found.entry))
+            (λ part. part ≡ blamed_for P.info self.old.inputs (function_match found.entry))
             (λ e. e ≡ OutOfMemory) }
         ensures unchanged { self.new ≡ self.old }
     {
@@ -153,7 +153,7 @@ impl<'a, P: ModuleProvider> Context<'a, P> {
     {
         let error = error.unless_out_of_memory()?;
         match blamed {
-            Some(part) => Ok(self.code_failed.ask(part, error)?),
+            Some(part) => Ok(self.code_failed.fail(part, error)?),
             None => Ok(error),
         }
     }
@@ -161,19 +161,19 @@ impl<'a, P: ModuleProvider> Context<'a, P> {
     // The frames info of a function that was found, at an offset, by the records of its module.
     fn frames_info(
         &mut self,
-        found: FoundFunction<'a>,
+        found: FunctionMatch<'a>,
         module_info: Option<&'a ModuleInfo>,
         offset: u32,
     ) -> Result<Option<FunctionFrames<'a>>>
         requires named { GoesBySymbol (P.info self.old.inputs.provider) self.old.inputs.type_inputs.modules
-            (found_function found) }
+            (function_match found) }
         requires records { option_copied module_info
-            ≡ records_of P.info self.old.inputs (found_function found) }
+            ≡ records_of P.info self.old.inputs (function_match found) }
         ensures answer { Gives (λ f. f) result
-            (frames_of P.info self.old.inputs offset (found_function found.entry)) }
+            (frames_of P.info self.old.inputs offset (function_match found.entry)) }
         ensures inputs { self.new.inputs ≡ self.old.inputs }
         ensures failed { ButForMemory result (self.new.failed
-            ≡ failed_by_frames_of P.info self.old.inputs offset self.old.failed (found_function found.entry)) }
+            ≡ failed_by_frames_of P.info self.old.inputs offset self.old.failed (function_match found.entry)) }
         ensures code_failed { self.new.code_failed ≡ self.old.code_failed }
         ensures broken { GainsBroken P.info self.old.inputs.type_inputs self.old.failed self.new.failed }
     {
@@ -192,17 +192,17 @@ impl<'a, P: ModuleProvider> Context<'a, P> {
     }
 
     // The function info of a function that lies over a section offset.
-    fn function_info(&mut self, found: FoundFunction<'a>) -> Result<Option<Function>>
+    fn function_info(&mut self, found: FunctionMatch<'a>) -> Result<Option<Function>>
         requires named { GoesBySymbol (P.info self.old.inputs.provider) self.old.inputs.type_inputs.modules
-            (found_function found) }
+            (function_match found) }
         ensures answer { MatchResult result
             (λ f. option_map function_view f ≡ info_of P.info self.old.inputs.type_inputs self.old.inputs.address_map
-            (global_functions_of self.old.inputs) (found_function found.entry))
+            (global_functions_of self.old.inputs) (function_match found.entry))
             (λ e. e ≡ OutOfMemory) }
         ensures inputs { self.new.inputs ≡ self.old.inputs }
         ensures failed { OnOk result (self.new.failed
             ≡ failed_after_info P.info self.old.inputs.type_inputs self.old.inputs.address_map
-            (global_functions_of self.old.inputs) (found_function found.entry) self.old.failed) }
+            (global_functions_of self.old.inputs) (function_match found.entry) self.old.failed) }
         ensures code_failed { self.new.code_failed ≡ self.old.code_failed }
         ensures broken { GainsBroken P.info self.old.inputs.type_inputs self.old.failed self.new.failed }
     {
@@ -224,9 +224,9 @@ impl<'a, P: ModuleProvider> Context<'a, P> {
     }
 
     // What lies over an address.
-    pub(crate) fn found(&mut self, address: u32) -> Result<Option<FoundFunction<'a>>>
+    pub(crate) fn found(&mut self, address: u32) -> Result<Option<FunctionMatch<'a>>>
         ensures answer { MatchResult result
-            (λ found. option_map found_function found ≡ found_at P.info self.old.inputs address)
+            (λ found. option_map function_match found ≡ found_at P.info self.old.inputs address)
             (λ e. e ≡ OutOfMemory) }
         ensures unchanged { self.new ≡ self.old }
         ensures outside { contribution_at self.old.inputs address ≡ None → result ≡ Ok None }
@@ -241,9 +241,9 @@ impl<'a, P: ModuleProvider> Context<'a, P> {
     fn found_over(
         &mut self,
         section_offset: PdbInternalSectionOffset,
-    ) -> Result<Option<FoundFunction<'a>>>
+    ) -> Result<Option<FunctionMatch<'a>>>
         ensures answer { MatchResult result
-            (λ found. option_map found_function found
+            (λ found. option_map function_match found
             ≡ function_over (P.info self.old.inputs.provider) self.old.inputs.type_inputs.modules
             (contributions_of self.old.inputs) (global_functions_of self.old.inputs) section_offset)
             (λ e. e ≡ OutOfMemory) }
@@ -263,9 +263,9 @@ impl<'a, P: ModuleProvider> Context<'a, P> {
         &mut self,
         section_offset: PdbInternalSectionOffset,
         contribution: ModuleSectionContribution,
-    ) -> Result<Option<FoundFunction<'a>>>
+    ) -> Result<Option<FunctionMatch<'a>>>
         ensures answer { MatchResult result
-            (λ found. option_map found_function found
+            (λ found. option_map function_match found
             ≡ function_in_contribution (P.info self.old.inputs.provider) self.old.inputs.type_inputs.modules
             (global_functions_of self.old.inputs) section_offset contribution)
             (λ e. e ≡ OutOfMemory) }
@@ -273,7 +273,10 @@ impl<'a, P: ModuleProvider> Context<'a, P> {
     {
         let module_index = contribution.module_index;
         if let Some(procedure) = self.procedure_in(section_offset, module_index)? {
-            return Ok(Some(FoundFunction::Procedure(module_index, procedure)));
+            return Ok(Some(FunctionMatch::Procedure {
+                module_index,
+                procedure,
+            }));
         }
         let mut next_place = 0;
         let functions = &self.tables.global_functions;

@@ -7,15 +7,16 @@ ghost use Rattle.pdb_errors.specs.declared.error.Error.TheVariants.{OutOfMemory}
 ghost use Rattle.pdb_function_info.specs.Frames.{ButForMemory};
 ghost use Rattle.pdb_function_info.specs.NameTexts.{GainsBroken};
 ghost use Rattle.pdb_function_info.specs.Function.{function_view};
-ghost use Rattle.pdb_addr2line.specs.Functions.{after_function, OnlyGainsBroken};
+ghost use Rattle.pdb_addr2line.specs.FunctionIter.{after_function, OnlyGainsBroken};
 ghost use Rattle.pdb_addr2line.specs.Lookups.{code_failed_after, failed_after_frames};
 ghost use Rattle.pdb_addr2line.specs.NamedFunctions.{named_frame, named_frames, named_frames_answered};
 ghost use Rattle.pdb_addr2line.specs.NamedFunctions.{named_function_at, symbol_name_at};
 
 use crate::context::Context;
-use pdb_errors::{ModuleProvider, Result};
+use pdb_errors::Result;
 use pdb_frames::{Frame, FunctionFrames};
 use pdb_function_info::{Function, symbol_name};
+use pdb_records::ModuleProvider;
 
 impl<'a, P: ModuleProvider> Context<'a, P> {
     /// What [`find_function`](Context::find_function) answers, where a procedure whose signature can't be printed goes

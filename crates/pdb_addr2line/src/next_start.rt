@@ -1,12 +1,13 @@
-//! The first function that starts at an address or behind it, by a search in the start addresses.
+//! The first function that starts at an address or after it, by a search in the start addresses.
 
 ghost use Rattle.std.specs.Prelude.{◌≡◌, find, nat_le, slice_get, MatchResult};
 ghost use Rattle.pdb_errors.specs.declared.error.Error.TheVariants.{OutOfMemory};
 ghost use Rattle.pdb_addr2line.specs.FunctionLaws.{Ascend};
-ghost use Rattle.pdb_addr2line.specs.Functions.{start_addresses};
+ghost use Rattle.pdb_addr2line.specs.FunctionIter.{start_addresses};
 
 use crate::context::Context;
-use pdb_errors::{ModuleProvider, Result};
+use pdb_errors::Result;
+use pdb_records::ModuleProvider;
 
 // The address at a position.
 fn address_at(addresses: &[u32], position: usize) -> Option<u32>
@@ -26,7 +27,7 @@ fn first_from(addresses: &[u32], address: u32) -> Option<u32>
 
 impl<'a, P: ModuleProvider> Context<'a, P> {
     /// The first of the [start addresses](Context::start_addresses) that isn't below this one, for callers that go over
-    /// functions one at a time. `None` where no function starts there or behind it.
+    /// functions one at a time. `None` where no function starts there or after it.
     ///
     /// # Errors
     ///

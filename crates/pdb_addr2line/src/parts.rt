@@ -6,6 +6,6 @@ pub use pdb_functions::{
     compute_section_contributions,
 };
 pub use pdb_inline::{InlineRange, StackTable};
-pub use pdb_signatures::seen::{AlreadySeenError, Seen, SeenError};
 pub use pdb_tables::{Probes, RangeSet, Segment, Segments};
+pub use pdb_type_printer::seen::{AlreadySeenError, Seen, SeenError};
 pub use pdb_types::{IdMap, ItemIndex, ItemMap, TypeMap, TypeSizeCache};

@@ -4,18 +4,18 @@ ghost use Rattle.std.specs.Prelude.{◌≡◌, ◌∷◌, [], IfOk, OnOk, IfErr,
 ghost use Rattle.pdb_types.specs.FailedParts.{with_met};
 ghost use Rattle.pdb_types.specs.TypeSizes.{size_of};
 ghost use Rattle.pdb_errors.specs.declared.error.Error.TheVariants.{OutOfMemory};
-ghost use Rattle.pdb_documents.specs.Printed.{signature_run, id_run};
+ghost use Rattle.pdb_type_texts.specs.Printed.{signature_run, id_run};
 ghost use Rattle.pdb_addr2line.specs.Calls.{FunctionView, FramesView, FunctionsView, SizeView};
 ghost use Rattle.pdb_addr2line.specs.Calls.{TextView, answer_view, printed, with_failed, after_frames};
 ghost use Rattle.pdb_addr2line.specs.Calls.{Appends, StopsEarly, answer_to, answers_to, after_call, after_calls};
-ghost use Rattle.pdb_addr2line.specs.Functions.{after_function, after_functions, functions_of};
-ghost use Rattle.pdb_addr2line.specs.Functions.{start_addresses, OnlyGainsBroken};
+ghost use Rattle.pdb_addr2line.specs.FunctionIter.{after_function, after_functions, functions_of};
+ghost use Rattle.pdb_addr2line.specs.FunctionIter.{start_addresses, OnlyGainsBroken};
 ghost use Rattle.pdb_addr2line.specs.Lookups.{function_at, frames_answered};
 
 use crate::calls::{Answer, Call};
 use crate::context::Context;
-use pdb_errors::{ModuleProvider, Result};
-use pdb_records::{IdIndex, TypeIndex};
+use pdb_errors::Result;
+use pdb_records::{IdIndex, ModuleProvider, TypeIndex};
 
 impl<'a, P: ModuleProvider> Context<'a, P> {
     /// Answers calls, one after the other, and appends an answer for each.

@@ -3,14 +3,14 @@
 ghost use Rattle.std.specs.Prelude.{◌≡◌, map, OnOk, MatchResult};
 ghost use Rattle.pdb_errors.specs.declared.error.Error.TheVariants.{OutOfMemory};
 ghost use Rattle.pdb_functions.specs.GlobalFunctions.{global_function};
-ghost use Rattle.pdb_functions.specs.FoundFunctions.{procedures_of_module};
+ghost use Rattle.pdb_functions.specs.FunctionMatches.{procedures_of_module};
 ghost use Rattle.pdb_functions.specs.Procedures.{module_procedure};
-ghost use Rattle.pdb_addr2line.specs.Functions.{procedures_of_modules, with_start, with_starts, start_addresses};
+ghost use Rattle.pdb_addr2line.specs.FunctionIter.{procedures_of_modules, with_start, with_starts, start_addresses};
 
 use crate::context::Context;
-use pdb_errors::{ModuleProvider, Result};
+use pdb_errors::Result;
 use pdb_functions::{BasicModuleInfoCache, GlobalFunction, ProcedureSymbolFunction};
-use pdb_records::{AddressMap, Module, PdbInternalSectionOffset};
+use pdb_records::{AddressMap, Module, ModuleProvider, PdbInternalSectionOffset};
 use std::alloc::{AllocError, Global};
 use std::collections::BTreeSet;
 

@@ -4,11 +4,11 @@ use Rattle.std.specs.Prelude.{Some, None}
 use Rattle.std.specs.Fmt.{digits}
 use Rattle.std.specs.Str.{chars, trim_start}
 use Rattle.pdb_frames.specs.Frame.{FrameInfo}
-use Rattle.pdb_answer_printer.specs.Answers.{answer_text, error_text}
+use Rattle.pdb_answer_printer.specs.AnswerText.{answer_text, error_text}
 use Rattle.pdb_answer_printer.specs.JsonObjects.{frame_object, object_front, file_members, frames_member, error_member}
-use Rattle.pdb_answer_printer.specs.Lines.{unknown}
-use Rattle.pdb_answer_printer.specs.RequestLines.{request_of}
-use Rattle.pdb_answer_printer.specs.Requests.{Question, AtAddress, OfSymbol, AtNone}
+use Rattle.pdb_answer_printer.specs.AnswerLines.{unknown}
+use Rattle.pdb_answer_printer.specs.InputLineParser.{request_of}
+use Rattle.pdb_answer_printer.specs.InputLine.{Question, AtAddress, OfSymbol, AtNone}
 use Rattle.pdb_answer_printer.specs.declared.printer_options.Detail.{Detail}
 use Rattle.pdb_answer_printer.specs.declared.printer_options.Detail.TheVariants.{Brief, Verbose}
 use Rattle.pdb_answer_printer.specs.declared.printer_options.Digits.TheVariants.{Hexadecimal, ByPrefix}
@@ -16,8 +16,8 @@ use Rattle.pdb_answer_printer.specs.declared.printer_options.NameStyle.TheVarian
 use Rattle.pdb_answer_printer.specs.declared.printer_options.PrinterOptions.{PrinterOptions}
 use Rattle.pdb_answer_printer.specs.declared.printer_options.Style.{Style}
 use Rattle.pdb_answer_printer.specs.declared.printer_options.Style.TheVariants.{Llvm, Gnu, Json}
-use Rattle.pdb_answer_printer.specs.declared.requests.Lack.TheVariants as lack
-use Rattle.pdb_answer_printer.specs.declared.requests.Sort.TheVariants.{Code, Data}
+use Rattle.pdb_answer_printer.specs.declared.input_line.Lack.TheVariants as lack
+use Rattle.pdb_answer_printer.specs.declared.input_line.Sort.TheVariants.{Code, Data}
 
 -- options with the address, on one line or not, and with or without folders
 abbrev pub options_of : Style → Detail → (pretty basenames : Bool) → PrinterOptions

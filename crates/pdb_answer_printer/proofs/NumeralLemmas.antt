@@ -8,7 +8,7 @@ use Rattle.std.specs.Char.{digit_value}
 use Rattle.std.specs.List.{list_all}
 use Rattle.std.specs.Result.{result_ok}
 use Rattle.std.specs.Str.Parse.{ParsesUnsigned, IsNumeral, AllDigits, digits_value}
-use Rattle.pdb_answer_printer.specs.Numbers.{is_numeral, number_of}
+use Rattle.pdb_answer_printer.specs.InputNumbers.{is_numeral, number_of}
 
 both : (a b : Bool) → a ≡ true → b ≡ true → (a && b) ≡ true
 both true b first second = second

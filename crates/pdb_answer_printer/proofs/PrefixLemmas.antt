@@ -4,7 +4,7 @@ use Rattle.std.proofs.Common.{Bor, option_map}
 use Rattle.std.specs.Prelude.{MatchOption, if◌then◌else◌, ◌==◌}
 use Rattle.std.specs.Str.Pattern.{FindsTextPrefix, StripsPrefix}
 use Rattle.std.proofs.lemmas.Bool.Decides.{nat_tests}
-use Rattle.pdb_answer_printer.specs.Numbers.{after_prefix}
+use Rattle.pdb_answer_printer.specs.InputNumbers.{after_prefix}
 
 -- two equal bytes pass the test, and others don't
 same_byte : (byte : ℕ) (found : Option (List ℕ)) → (if byte == byte then found else None) ≡ found

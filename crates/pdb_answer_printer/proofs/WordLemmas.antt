@@ -6,7 +6,7 @@ use Rattle.std.specs.Prelude.{not}
 use Rattle.std.specs.Char.{is_whitespace, is_not_whitespace, encode_utf8}
 use Rattle.std.specs.Str.{IsUtf8, NonePass, NoCharPasses, EmptyOrStartsWithPassing}
 use Rattle.std.specs.Str.{chars, encode_utf8_all, skip_leading_whitespace}
-use Rattle.pdb_answer_printer.specs.RequestLines.{word_characters, first_word}
+use Rattle.pdb_answer_printer.specs.InputLineParser.{word_characters, first_word}
 
 -- characters whose bytes begin with those of others begin with these
 without_front : (front whole : List ℕ) (rest : List ℕ) → encode_utf8_all whole ≡ encode_utf8_all front ++ rest

@@ -4,13 +4,13 @@ use Rattle.std.specs.Fmt.{decimal}
 use Rattle.pdb_frames.specs.Frame.{FrameInfo}
 use Rattle.pdb_symbolication.specs.JsonTexts.{quoted}
 use Rattle.pdb_answer_printer.specs.FrameNames.{function_of, file_of, line_of}
-use Rattle.pdb_answer_printer.specs.Lines.{hexadecimal, first_source, later_sources}
-use Rattle.pdb_answer_printer.specs.Requests.{Question, Target, AtAddress, OfSymbol, AtNone}
+use Rattle.pdb_answer_printer.specs.AnswerLines.{hexadecimal, first_source, later_sources}
+use Rattle.pdb_answer_printer.specs.InputLine.{Question, Target, AtAddress, OfSymbol, AtNone}
 use Rattle.pdb_answer_printer.specs.declared.printer_options.NameStyle.{NameStyle}
 use Rattle.pdb_answer_printer.specs.declared.printer_options.NameStyle.TheVariants as names
 use Rattle.pdb_answer_printer.specs.declared.printer_options.PrinterOptions.{PrinterOptions}
-use Rattle.pdb_answer_printer.specs.declared.requests.Sort.{Sort}
-use Rattle.pdb_answer_printer.specs.declared.requests.Sort.TheVariants.{Code, Data, Frame}
+use Rattle.pdb_answer_printer.specs.declared.input_line.Sort.{Sort}
+use Rattle.pdb_answer_printer.specs.declared.input_line.Sort.TheVariants.{Code, Data, Frame}
 
 -- the address, where one is asked for
 abbrev pub address_member : Target → List ℕ

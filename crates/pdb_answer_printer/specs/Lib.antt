@@ -1,8 +1,8 @@
 pub mod BaseNames
-pub mod Requests
+pub mod InputLine
 pub mod FrameNames
-pub mod Lines
-pub mod Numbers
-pub mod RequestLines
-pub mod Answers
+pub mod AnswerLines
+pub mod InputNumbers
+pub mod InputLineParser
+pub mod AnswerText
 pub mod JsonObjects

@@ -1,15 +1,15 @@
 //! The JSON object of an answer, whose members stand in the order of their names, as `llvm-symbolizer` has them.
 
 ghost use Rattle.std.specs.Prelude.{◌≡◌, ◌++◌, [], codes, map, string_bytes, OnOk};
-ghost use Rattle.pdb_answer_printer.specs.Answers.{error_text};
+ghost use Rattle.pdb_answer_printer.specs.AnswerText.{error_text};
 ghost use Rattle.pdb_answer_printer.specs.JsonObjects.{error_member, file_members, json_answer, json_unknown};
 ghost use Rattle.pdb_answer_printer.specs.JsonObjects.{object, object_front, symbol_member};
-ghost use Rattle.pdb_answer_printer.specs.Requests.{question_of, target_of};
+ghost use Rattle.pdb_answer_printer.specs.InputLine.{question_of, target_of};
 ghost use Rattle.pdb_symbolication.specs.JsonTexts.{quoted};
 
+use crate::input_line::{InputLine, InputTarget, Sort};
 use crate::json_frames::write_frames_member;
 use crate::printer_options::PrinterOptions;
-use crate::requests::{Place, Request, Sort};
 use pdb_frames::Frame;
 use pdb_symbolication::write_quoted;
 use std::alloc::AllocError;
@@ -18,7 +18,7 @@ use std::alloc::AllocError;
 pub(crate) fn write_json_answer(
     out: &mut String,
     options: &PrinterOptions,
-    request: &Request<'_>,
+    request: &InputLine<'_>,
     frames: &[Frame<'_>],
     sources: &[String],
 ) -> Result<(), AllocError>
@@ -35,15 +35,15 @@ pub(crate) fn write_json_answer(
 pub(crate) fn write_json_unknown(
     out: &mut String,
     options: &PrinterOptions,
-    request: &Request<'_>,
+    request: &InputLine<'_>,
 ) -> Result<(), AllocError>
     ensures { OnOk result (string_bytes out.new ≡ string_bytes out.old ++ json_unknown (question_of request.now)) }
 {
     match (request.place, request.sort) {
-        (Place::Nowhere(_), _) | (Place::Address(_), Sort::Code) => {
+        (InputTarget::Nowhere(_), _) | (InputTarget::Address(_), Sort::Code) => {
             write_json_answer(out, options, request, &[], &[])
         }
-        (Place::Symbol(_), Sort::Code) => write_object_with(out, request, "\"Loc\":[],"),
+        (InputTarget::Symbol(_), Sort::Code) => write_object_with(out, request, "\"Loc\":[],"),
         (_, Sort::Data) => {
             let known = "\"Data\":{\"Name\":\"\",\"Size\":\"0x0\",\"Start\":\"0x0\"},";
             write_object_with(out, request, known)
@@ -55,7 +55,7 @@ pub(crate) fn write_json_unknown(
 // Appends an object with these members.
 fn write_object_with(
     out: &mut String,
-    request: &Request<'_>,
+    request: &InputLine<'_>,
     members: &str,
 ) -> Result<(), AllocError>
     ensures { OnOk result (string_bytes out.new
@@ -70,7 +70,7 @@ fn write_object_with(
 /// Appends the object that says why a file can't be opened.
 pub fn write_json_error(
     out: &mut String,
-    request: &Request<'_>,
+    request: &InputLine<'_>,
     why: &str,
 ) -> Result<(), AllocError>
     ensures { OnOk result (string_bytes out.new
@@ -92,18 +92,18 @@ fn write_error(out: &mut String, why: &str) -> Result<(), AllocError>
 
 // Appends what an object begins with: the address, where one is asked for.
 #[tactic(auto, unfolding(crate::specs::JsonObjects::object_front))]
-fn open_object(out: &mut String, request: &Request<'_>) -> Result<(), AllocError>
+fn open_object(out: &mut String, request: &InputLine<'_>) -> Result<(), AllocError>
     ensures { OnOk result (string_bytes out.new
         ≡ string_bytes out.old ++ object_front (target_of request.now.place)) }
 {
     match request.place {
-        Place::Address(given) => write!(out, "{{\"Address\":\"0x{given:x}\","),
+        InputTarget::Address(given) => write!(out, "{{\"Address\":\"0x{given:x}\","),
         _ => out.push_str("{"),
     }
 }
 
 // Appends the names of the file and of the symbol.
-fn write_file(out: &mut String, request: &Request<'_>) -> Result<(), AllocError>
+fn write_file(out: &mut String, request: &InputLine<'_>) -> Result<(), AllocError>
     ensures { OnOk result (string_bytes out.new
         ≡ string_bytes out.old ++ file_members (question_of request.now)) }
 {
@@ -112,12 +112,12 @@ fn write_file(out: &mut String, request: &Request<'_>) -> Result<(), AllocError>
     write_symbol(out, request)
 }
 
-fn write_symbol(out: &mut String, request: &Request<'_>) -> Result<(), AllocError>
+fn write_symbol(out: &mut String, request: &InputLine<'_>) -> Result<(), AllocError>
     ensures { OnOk result (string_bytes out.new
         ≡ string_bytes out.old ++ symbol_member (target_of request.now.place)) }
 {
     match request.place {
-        Place::Symbol(name) => write_symbol_name(out, name),
+        InputTarget::Symbol(name) => write_symbol_name(out, name),
         _ => Ok(()),
     }
 }

@@ -5,25 +5,25 @@
 //! of `specs/`.
 #![tactic(auto)]
 
-mod answers;
+mod answer_lines;
+mod answer_text;
 mod base_names;
 mod frame_names;
+mod input_file_names;
+mod input_line;
+mod input_line_parser;
+mod input_numbers;
+mod input_words;
 mod json_frames;
 mod json_objects;
-mod lines;
-mod named_files;
-mod numbers;
 mod printer_options;
-mod request_lines;
-mod request_words;
-mod requests;
 mod source_texts;
 
-pub use answers::{write_answer, write_unknown};
+pub use answer_text::{write_answer, write_unknown};
 pub use base_names::base_name;
 pub use frame_names::{file_of, shown_frames};
+pub use input_line::{InputLine, InputTarget, Lack, Sort};
+pub use input_line_parser::parse_input_line;
+pub use input_numbers::{parse_address, parse_number};
 pub use json_objects::write_json_error;
-pub use numbers::{parse_address, parse_number};
 pub use printer_options::{Detail, Digits, NameStyle, PrinterOptions, Style};
-pub use request_lines::parse_request;
-pub use requests::{Lack, Place, Request, Sort};

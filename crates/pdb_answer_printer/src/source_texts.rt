@@ -1,7 +1,7 @@
 //! The lines of source files around the places of frames.
 
 ghost use Rattle.std.specs.Prelude.{◌≡◌, map, string_bytes};
-ghost use Rattle.pdb_answer_printer.specs.Lines.{first_source, later_sources};
+ghost use Rattle.pdb_answer_printer.specs.AnswerLines.{first_source, later_sources};
 
 /// The first text; none where there are none.
 pub(crate) fn first_source<'s>(sources: &'s [String]) -> &'s str

@@ -1,4 +1,4 @@
--- What holds at an address, where one span more stands behind all others.
+-- What holds at an address, where one span more stands after all others.
 use Rattle.std.proofs.Common.{◌≡◌, ◌∙◌, ℕ, ◌<◌, ◌≤◌, false, List, [], ◌∷◌, ◌++◌, refl, sym, ap, subst}
 use Rattle.std.proofs.Common.{Some, None, option_and_then, slice_get, length, ◌+◌, ◌-◌, arith}
 use Rattle.std.specs.List.{All}
@@ -13,7 +13,7 @@ use Rattle.pdb_breakpad.specs.AddressSpans.{ending_before}
 past : {T : Type 0} (address : ℕ) (span : Span T) → span.last < address → is_over address span ≡ false
 past address span before = grind (arith, common_steps)
 
--- a span that begins behind an address isn't over it
+-- a span that begins after an address isn't over it
 ahead : {T : Type 0} (address : ℕ) (span : Span T) → address < span.start → is_over address span ≡ false
 ahead address span before = grind (arith, common_steps)
 
@@ -28,7 +28,7 @@ nothing_past a first (span ∷ spans) from before =
     = nothing_past a first spans from (All-tail (λ s. s.last < first) span spans before) in
     grind (arith, common_steps, outermost, others)
 
--- what holds at an address, where a span stands behind all others
+-- what holds at an address, where a span stands after all others
 pub content_with_last : {T : Type 0} (address : ℕ) (spans : List (Span T)) (span : Span T)
     → content_at address (spans ++ span ∷ []) ≡ option_or (content_at address spans) (content_at address (span ∷ []))
 content_with_last address [] span = refl
@@ -37,13 +37,13 @@ content_with_last address (first ∷ spans) span =
     ≡ option_or (content_at address spans) (content_at address (span ∷ [])) = content_with_last address spans span in
     grind (arith, common_steps, others)
 
--- behind all others stands this one
+-- after all others stands this one
 at_end : {T : Type 0} (spans : List (Span T)) (span : Span T)
     → slice_get (spans ++ span ∷ []) (length spans) ≡ Some span
 at_end [] span = refl
 at_end (first ∷ spans) span = at_end spans span
 
--- the last of a list is the one that stands behind all others
+-- the last of a list is the one that stands after all others
 last_of_pushed : {T : Type 0} (spans : List (Span T)) (span : Span T)
     → slice_get (spans ++ span ∷ []) (length (spans ++ span ∷ []) - 1) ≡ Some span
 last_of_pushed spans span =
@@ -86,7 +86,7 @@ stays_below a first last content spans span below some is =
     ∙ ap (option_or (content_at a spans)) (holds_below a first last content span below some is)
     ∙ sym (content_with_last a spans span)
 
--- a span of a piece behind all others holds there
+-- a span of a piece after all others holds there
 pub begins_at : {T : Type 0} (a first last : ℕ) (spans : List (Span T)) (span : Span T) → first ≤ a → a ≤ last
     → All (λ s. s.last < first) spans → span.start ≡ first → span.last ≡ last
     → content_at a (spans ++ span ∷ []) ≡ Some span.content
@@ -134,7 +134,7 @@ ascend_last (first ∷ spans) span order =
     let begins = All-pop (λ s. first.start ≤ s.start) (spans ++ span ∷ []) spans (Some span) refl order.1.0 in
     (All-cons (λ s. s.start ≤ span.start) first spans begins.1 rest.0, rest.1)
 
--- spans behind which one stands that begins no earlier ascend
+-- spans after which one stands that begins no earlier ascend
 ascend_pushed : {T : Type 0} (spans : List (Span T)) (span : Span T) → Ascend spans
     → All (λ s. s.start ≤ span.start) spans → span.start ≤ span.last → Ascend (spans ++ span ∷ [])
 ascend_pushed [] span order begin some = (some, (All-nil (λ s. span.start ≤ s.start), tt))
@@ -156,7 +156,7 @@ begin_before first (span ∷ spans) order ends =
     (omega (arith, order.0, All-head (λ s. s.last < first) span spans ends))
     (begin_before first spans order.1.1 (All-tail (λ s. s.last < first) span spans ends))
 
--- spans end before an address behind the one before which they ended, and so does one behind them
+-- spans end before an address after the one before which they ended, and so does one after them
 ends_pushed : {T : Type 0} (first last : ℕ) (spans : List (Span T)) (span : Span T) → first ≤ last
     → EndBefore first spans → span.last ≡ last → EndBefore (last + 1) (spans ++ span ∷ [])
 ends_pushed first last spans span some ends is =
@@ -164,7 +164,7 @@ ends_pushed first last spans span some ends is =
     (All-weaker (λ s. s.last < first) (λ s. s.last < last + 1) (λ s before. omega (arith, before, some)) spans ends)
     (omega (arith, is))
 
--- where the last of spans goes on over a piece, they end before the address behind it
+-- where the last of spans goes on over a piece, they end before the address after it
 pub ends_lengthened : {T : Type 0} (first last : ℕ) (old spans : List (Span T)) (span : Span T) → first ≤ last
     → old ≡ spans ++ span ∷ [] → EndBefore first old
     → EndBefore (last + 1) (spans ++ record span { last = last } ∷ [])
@@ -208,5 +208,5 @@ went_on a first last old spans span from to is before order there =
 -- what is known of spans of which the last goes on
 pub ruleset lengthened = (before_by_last, went_on, stays_below, ends_there)
 
--- what is known of spans behind which one begins
+-- what is known of spans after which one begins
 pub ruleset begun = (begins_at, none_below)

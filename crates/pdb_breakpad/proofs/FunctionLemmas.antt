@@ -6,9 +6,9 @@ use Rattle.std.proofs.lemmas.Grind.{common_steps}
 use Rattle.std.proofs.lemmas.List.Folds.{find-append}
 use Rattle.pdb_frames.specs.Frame.{FramesInfo}
 use Rattle.pdb_breakpad.specs.declared.function_records.FunctionRecords.{FunctionRecords}
-use Rattle.pdb_breakpad.specs.declared.numbers.Numbers.{Numbers}
+use Rattle.pdb_breakpad.specs.declared.record_numbers.Numbers.{Numbers}
 use Rattle.pdb_breakpad.specs.FrameSource.{KeepsAnswers}
-use Rattle.pdb_breakpad.specs.Functions.{Shows, ShowsOver, StandBetween, function_over, is_over, turned}
+use Rattle.pdb_breakpad.specs.FunctionWalk.{Shows, ShowsOver, StandBetween, function_over, is_over, turned}
 use Rattle.pdb_breakpad.specs.NumberedCode.{KeepsAllNames}
 use Rattle.pdb_breakpad.specs.ShownFrames.{answer_shown}
 use Rattle.pdb_breakpad.proofs.FunctionRecordLemmas.{still_reads}
@@ -17,7 +17,7 @@ use Rattle.pdb_breakpad.proofs.FunctionRecordLemmas.{still_reads}
 past : (a : ℕ) (f : FunctionRecords) → f.last < a → is_over a f ≡ false
 past a f before = grind (arith, common_steps)
 
--- a function that begins behind an address isn't over it
+-- a function that begins after an address isn't over it
 ahead : (a : ℕ) (f : FunctionRecords) → a < f.start → is_over a f ≡ false
 ahead a f before = grind (arith, common_steps)
 
@@ -49,7 +49,7 @@ stand_up_to from to next [] more stand = omega (arith, more, stand)
 stand_up_to from to next (f ∷ functions) more stand =
     (stand.0, (stand.1.0, stand_up_to (f.last + 1) to next functions more stand.1.1))
 
--- functions behind which one more stands
+-- functions after which one more stands
 pub stand_pushed : (from next : ℕ) (functions : List FunctionRecords) (f : FunctionRecords)
     → StandBetween from f.start functions → f.start ≤ f.last → f.last + 1 ≡ next
     → StandBetween from next (functions ++ f ∷ [])
@@ -57,7 +57,7 @@ stand_pushed from next [] f stand some ends = (stand, (some, omega (arith, ends)
 stand_pushed from next (g ∷ functions) f stand some ends =
     (stand.0, (stand.1.0, stand_pushed (g.last + 1) next functions f stand.1.1 some ends))
 
--- what is over an address before a function that stands behind others is over it among those
+-- what is over an address before a function that stands after others is over it among those
 pub over_before : (a : ℕ) (functions : List FunctionRecords) (f : FunctionRecords) → a < f.start
     → function_over a (functions ++ f ∷ []) ≡ function_over a functions
 over_before a functions f below =
@@ -66,7 +66,7 @@ over_before a functions f below =
     let same : option_or (function_over a functions) None ≡ function_over a functions = grind (arith, common_steps) in
     find-append (is_over a) functions (f ∷ []) ∙ ap (option_or (function_over a functions)) nothing ∙ same
 
--- a function behind others is over its addresses
+-- a function after others is over its addresses
 pub over_last : (a from : ℕ) (functions : List FunctionRecords) (f : FunctionRecords)
     → StandBetween from f.start functions → f.start ≤ a → a ≤ f.last
     → function_over a (functions ++ f ∷ []) ≡ Some f

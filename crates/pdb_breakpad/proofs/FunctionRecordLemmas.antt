@@ -10,10 +10,10 @@ use Rattle.pdb_frames.specs.Frame.{FrameInfo, FramesInfo}
 use Rattle.pdb_breakpad.specs.declared.function_records.FunctionRecords.{FunctionRecords}
 use Rattle.pdb_breakpad.specs.declared.inline_records.InlinedCall.{InlinedCall}
 use Rattle.pdb_breakpad.specs.declared.numbered_code.NumberedCode.{NumberedCode}
-use Rattle.pdb_breakpad.specs.declared.numbered_code.Place.{Place}
-use Rattle.pdb_breakpad.specs.declared.numbers.Numbers.{Numbers}
+use Rattle.pdb_breakpad.specs.declared.numbered_code.SourceLocation.{SourceLocation}
+use Rattle.pdb_breakpad.specs.declared.record_numbers.Numbers.{Numbers}
 use Rattle.pdb_breakpad.specs.AddressSpans.{content_at}
-use Rattle.pdb_breakpad.specs.FrameTexts.{FrameText, frame_text}
+use Rattle.pdb_breakpad.specs.ShownNames.{FrameText, frame_text}
 use Rattle.pdb_breakpad.specs.FunctionRecords.{Reads}
 use Rattle.pdb_breakpad.specs.InlineRecords.{calls_at}
 use Rattle.pdb_breakpad.specs.NumberedCode.{AreCalls, IsCall, IsCode, IsOptionalPlace, KeepsAllNames}
@@ -21,7 +21,7 @@ use Rattle.pdb_breakpad.specs.ShownFrames.{ShownCall, ShownFrame, ShownPlace, an
 use Rattle.pdb_breakpad.specs.ShownFrames.{innermost_place, own_name, own_place, place_of, shown_up_to}
 use Rattle.pdb_breakpad.specs.ShownFrames.{stack_read, stack_shown}
 
--- the last of a list is the last of what stands behind its first
+-- the last of a list is the last of what stands after its first
 last_behind_first : {A : Type 0} (first second : A) (others : List A)
     → slice_get (first ∷ second ∷ others) (length (first ∷ second ∷ others) - 1)
     ≡ slice_get (second ∷ others) (length (second ∷ others) - 1)
@@ -49,7 +49,7 @@ own_stack (frame ∷ frames) = read_as_shown (frame_text frame) (map frame_text 
 
 -- what is read where all that is known of the code was added, or nothing of a function whose end isn't known
 read_up_to : (numbers : Numbers) (code : NumberedCode) (frames : List FrameInfo) (end : Option ℕ)
-    (calls : List InlinedCall) (place : Option Place) → IsCode numbers code (map frame_text frames)
+    (calls : List InlinedCall) (place : Option SourceLocation) → IsCode numbers code (map frame_text frames)
     → calls ≡ (if is_some end then code.calls.items else [])
     → place ≡ (if is_some end then code.place else None)
     → (shown_calls : List ShownCall) × ((shown_place : Option ShownPlace) × (AreCalls numbers calls shown_calls
@@ -104,7 +104,7 @@ keeps_calls old new (call ∷ calls) (named ∷ shown) keeps are = (
 )
 
 -- a place stands for what it stood for, once more names have numbers
-pub keeps_place : (old new : Numbers) (place : Option Place) (shown : Option ShownPlace) → KeepsAllNames old new
+pub keeps_place : (old new : Numbers) (place : Option SourceLocation) (shown : Option ShownPlace) → KeepsAllNames old new
     → IsOptionalPlace old place shown → IsOptionalPlace new place shown
 keeps_place old new None None keeps is = is
 keeps_place old new None (Some shown) keeps is = is

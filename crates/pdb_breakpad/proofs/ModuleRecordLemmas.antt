@@ -1,7 +1,7 @@
 -- Lines that are written part by part.
 use Rattle.std.proofs.Common.{◌≡◌, ◌∙◌, ℕ, List, [], ◌++◌, ap, append_assoc}
 
--- a line of a word and three more, with a text behind each word but the last
+-- a line of a word and three more, with a text after each word but the last
 pub module_joined : (old t1 t2 t3 t4 t5 new word machine space debug_id name end : List ℕ)
     → t1 ≡ old ++ word → t2 ≡ t1 ++ machine → t3 ≡ t2 ++ space → t4 ≡ t3 ++ debug_id → t5 ≡ t4 ++ space
     → new ≡ t5 ++ (name ++ end)

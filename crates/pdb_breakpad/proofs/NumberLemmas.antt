@@ -1,4 +1,4 @@
--- Names behind which one more stands.
+-- Names after which one more stands.
 use Rattle.std.proofs.Common.{◌≡◌, ◌∙◌, ◌<◌, ◌+◌, ℕ, zero, suc, Bool, true, false, cond, List, [], ◌∷◌, ◌++◌, length}
 use Rattle.std.proofs.Common.{slice_get, get_or, drop, Option, Some, refl, sym, ap, arith, add-one, append_assoc, drop-cons}
 use Rattle.std.specs.Prelude.{String, map, string_bytes}
@@ -8,7 +8,7 @@ use Rattle.std.specs.Str.{bytes_eq}
 use Rattle.std.proofs.lemmas.Option.{slice_get-get_or, slice_get_within}
 use Rattle.std.proofs.lemmas.Slice.Eq.{bytes_eq-Decides}
 use Rattle.pdb_breakpad.specs.NameRecords.{name_record, name_records}
-use Rattle.pdb_breakpad.specs.Numbers.{KeepsNames, KnowsNumbers}
+use Rattle.pdb_breakpad.specs.RecordNumbers.{KeepsNames, KnowsNumbers}
 
 -- the names before it keep their numbers
 pub keeps_pushed : (names more : List (List ℕ)) → KeepsNames names (names ++ more)

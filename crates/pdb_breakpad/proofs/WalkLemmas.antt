@@ -12,12 +12,12 @@ use Rattle.std.proofs.lemmas.List.Elements.{All-append, All-nil}
 use Rattle.pdb_frames.specs.Frame.{FramesInfo}
 use Rattle.pdb_tables.specs.declared.segment.Segment.{Segment}
 use Rattle.pdb_breakpad.specs.declared.function_records.FunctionRecords.{FunctionRecords}
-use Rattle.pdb_breakpad.specs.declared.numbers.Numbers.{Numbers}
+use Rattle.pdb_breakpad.specs.declared.record_numbers.Numbers.{Numbers}
 use Rattle.pdb_breakpad.specs.FrameSource.{KeepsAnswers}
 use Rattle.pdb_breakpad.specs.FunctionRecords.{Reads}
-use Rattle.pdb_breakpad.specs.Functions.{Begins, GoesOn, IsAnswer, IsNext, IsOpen, IsWalked}
-use Rattle.pdb_breakpad.specs.Functions.{ReadsAnswer, Shows, ShowsOver, StandBetween, StepsOver, WritesFunctions}
-use Rattle.pdb_breakpad.specs.Functions.{function_over, turned}
+use Rattle.pdb_breakpad.specs.FunctionWalk.{Begins, GoesOn, IsAnswer, IsNext, IsOpen, IsWalked}
+use Rattle.pdb_breakpad.specs.FunctionWalk.{ReadsAnswer, Shows, ShowsOver, StandBetween, StepsOver, WritesFunctions}
+use Rattle.pdb_breakpad.specs.FunctionWalk.{function_over, turned}
 use Rattle.pdb_breakpad.specs.FunctionTexts.{function_text}
 use Rattle.pdb_breakpad.specs.NumberedCode.{KeepsAllNames}
 use Rattle.pdb_breakpad.specs.Pieces.{ArePieces, piece_end}
@@ -63,7 +63,7 @@ renumbered parameters answers source old new next walked before after keeps is =
   written = is.written;
 }
 
--- texts of functions, and those of more behind them
+-- texts of functions, and those of more after them
 more_texts : (parameters : List (Segment ℕ)) (functions more : List FunctionRecords)
     (before middle after : Option (List ℕ))
     → Appends before middle (flat_map (function_text parameters) functions)
@@ -345,7 +345,7 @@ written_for_first parameters answers first source numbers before after keeps is 
   written = is.written;
 }
 
--- a piece ends at an address of 32 bits, or behind all of them
+-- a piece ends at an address of 32 bits, or after all of them
 pub piece_fits : (points : List ℕ) (position : ℕ) → ((i : ℕ) → get_or points i 0 < 2 ^ 32)
     → piece_end points position ≤ 2 ^ 32
 piece_fits points position fit =

@@ -2,9 +2,9 @@
 use Rattle.std.specs.Prelude.{ℕ, ◌≡◌, ◌+◌, List, map, Option}
 use Rattle.pdb_frames.specs.Frame.{FramesInfo}
 use Rattle.pdb_breakpad.specs.declared.function_records.FunctionRecords.{FunctionRecords}
-use Rattle.pdb_breakpad.specs.declared.numbers.Numbers.{Numbers}
+use Rattle.pdb_breakpad.specs.declared.record_numbers.Numbers.{Numbers}
 use Rattle.pdb_breakpad.specs.AddressSpans.{EndBefore, content_at}
-use Rattle.pdb_breakpad.specs.FrameTexts.{frame_text}
+use Rattle.pdb_breakpad.specs.ShownNames.{frame_text}
 use Rattle.pdb_breakpad.specs.InlineRecords.{LevelEndsBefore, calls_at}
 use Rattle.pdb_breakpad.specs.NumberedCode.{AreCalls, IsCode, IsOptionalPlace}
 use Rattle.pdb_breakpad.specs.ShownFrames.{ShownCall, ShownFrame, ShownPlace, own_name, stack_read}

@@ -14,7 +14,7 @@ use Rattle.pdb_breakpad.specs.declared.address_spans.Span.{Span}
 use Rattle.pdb_breakpad.specs.declared.function_records.FunctionRecords.{FunctionRecords}
 use Rattle.pdb_breakpad.specs.declared.inline_records.InlinedCall.{InlinedCall}
 use Rattle.pdb_breakpad.specs.declared.inline_records.InlineRecord.{InlineRecord}
-use Rattle.pdb_breakpad.specs.declared.numbered_code.Place.{Place}
+use Rattle.pdb_breakpad.specs.declared.numbered_code.SourceLocation.{SourceLocation}
 use Rattle.pdb_breakpad.specs.ShownFrames.{own_name}
 
 -- a number in hexadecimal digits
@@ -61,7 +61,7 @@ inline_line inlined =
     ++ (codes " " ++ (hexadecimal (size_between inlined.span.start inlined.span.last) ++ codes "\n")))))))))))
 
 -- the record of a line: where its code lies, its number, and its file
-unfoldable pub line_line : Span Place → List ℕ
+unfoldable pub line_line : Span SourceLocation → List ℕ
 line_line span =
     hexadecimal span.start ++ (codes " " ++ (hexadecimal (size_between span.start span.last)
     ++ (codes " " ++ (decimal span.content.line ++ (codes " " ++ (decimal span.content.file ++ codes "\n"))))))

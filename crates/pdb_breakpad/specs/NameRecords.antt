@@ -2,8 +2,8 @@
 use Rattle.std.specs.Prelude.{ℕ, ◌+◌, List, [], ◌∷◌, ◌++◌, codes}
 use Rattle.std.specs.Fmt.{decimal}
 use Rattle.pdb_breakpad.specs.FunctionTexts.{name_line}
-use Rattle.pdb_breakpad.specs.declared.numbers.NameKind.{NameKind}
-use Rattle.pdb_breakpad.specs.declared.numbers.NameKind.TheVariants.{File, InlineOrigin}
+use Rattle.pdb_breakpad.specs.declared.record_numbers.NameKind.{NameKind}
+use Rattle.pdb_breakpad.specs.declared.record_numbers.NameKind.TheVariants.{File, InlineOrigin}
 
 -- what the record of a name begins with
 abbrev pub keyword : NameKind → List ℕ

@@ -3,18 +3,18 @@ use Rattle.std.specs.Prelude.{◌≡◌, List, Option, Some, None, slice_get}
 use Rattle.std.specs.List.{AllZip}
 use Rattle.pdb_breakpad.specs.declared.inline_records.InlinedCall.{InlinedCall}
 use Rattle.pdb_breakpad.specs.declared.numbered_code.NumberedCode.{NumberedCode}
-use Rattle.pdb_breakpad.specs.declared.numbered_code.Place.{Place}
-use Rattle.pdb_breakpad.specs.declared.numbers.Numbers.{Numbers}
-use Rattle.pdb_breakpad.specs.FrameTexts.{FrameText}
-use Rattle.pdb_breakpad.specs.Numbers.{KeepsNames}
+use Rattle.pdb_breakpad.specs.declared.numbered_code.SourceLocation.{SourceLocation}
+use Rattle.pdb_breakpad.specs.declared.record_numbers.Numbers.{Numbers}
+use Rattle.pdb_breakpad.specs.ShownNames.{FrameText}
+use Rattle.pdb_breakpad.specs.RecordNumbers.{KeepsNames}
 use Rattle.pdb_breakpad.specs.ShownFrames.{ShownCall, ShownPlace, calls_in, innermost_place}
 
 -- a place stands for this one: its file's number is that of the name, and the lines are the same
-abbrev pub IsPlace : Numbers → Place → ShownPlace → Type 0
+abbrev pub IsPlace : Numbers → SourceLocation → ShownPlace → Type 0
 IsPlace numbers place shown = (slice_get numbers.files place.file ≡ Some shown.file) × (place.line ≡ shown.line)
 
 -- a place that may be missing stands for this one
-abbrev pub IsOptionalPlace : Numbers → Option Place → Option ShownPlace → Type 0
+abbrev pub IsOptionalPlace : Numbers → Option SourceLocation → Option ShownPlace → Type 0
 IsOptionalPlace numbers None None = Unit {0}
 IsOptionalPlace numbers None (Some shown) = ⊥
 IsOptionalPlace numbers (Some place) None = ⊥

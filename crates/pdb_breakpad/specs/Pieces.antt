@@ -3,7 +3,7 @@ use Rattle.std.specs.Prelude.{◌≡◌, ◌≤◌, ◌<◌, ◌+◌, ◌^◌, �
 use Rattle.std.specs.List.Sorted.{IsStrictlyIncreasing}
 use Rattle.pdb_frames.specs.Frame.{FramesInfo}
 
--- the first address behind the piece at a position: where the next one begins, or behind all addresses of 32 bits
+-- the first address after the piece at a position: where the next one begins, or after all addresses of 32 bits
 abbrev pub piece_end : List ℕ → ℕ → ℕ
 piece_end points position = slice_index_or points (position + 1) (2 ^ 32)
 

@@ -3,8 +3,8 @@ use Rattle.pdb_breakpad.specs.declared.address_spans.Span.{Span as DeclaredSpan}
 use Rattle.pdb_breakpad.specs.declared.function_records.FunctionRecords.{FunctionRecords as DeclaredFunctionRecords}
 use Rattle.pdb_breakpad.specs.declared.inline_records.InlinedCall.{InlinedCall as DeclaredInlinedCall}
 use Rattle.pdb_breakpad.specs.declared.inline_records.InlineRecord.{InlineRecord as DeclaredInlineRecord}
-use Rattle.pdb_breakpad.specs.declared.numbered_code.Place.{Place as DeclaredPlace}
-use Rattle.pdb_breakpad.specs.declared.numbers.Numbers.{Numbers as DeclaredNumbers}
+use Rattle.pdb_breakpad.specs.declared.numbered_code.SourceLocation.{SourceLocation as DeclaredPlace}
+use Rattle.pdb_breakpad.specs.declared.record_numbers.Numbers.{Numbers as DeclaredNumbers}
 
 -- what holds over addresses that follow one another
 abbrev pub Span : Type 0 → Type 0
@@ -23,8 +23,8 @@ abbrev pub InlineRecord : Type 0
 InlineRecord = DeclaredInlineRecord
 
 -- a place in a source file
-abbrev pub Place : Type 0
-Place = DeclaredPlace
+abbrev pub SourceLocation : Type 0
+SourceLocation = DeclaredPlace
 
 -- the numbers of a symbol file
 abbrev pub Numbers : Type 0

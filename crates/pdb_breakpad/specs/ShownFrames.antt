@@ -2,7 +2,7 @@
 use Rattle.std.specs.Prelude.{ℕ, List, [], ◌∷◌, map, Option, Some, None, option_and_then, slice_get, length, ◌-◌}
 use Rattle.std.specs.Option.{unwrap_or}
 use Rattle.pdb_frames.specs.Frame.{FrameInfo, FramesInfo}
-use Rattle.pdb_breakpad.specs.FrameTexts.{FrameText, frame_text, function_text, no_file}
+use Rattle.pdb_breakpad.specs.ShownNames.{FrameText, frame_text, function_text, no_file}
 
 -- a place in a source file
 pub record ShownPlace : Type 0 where

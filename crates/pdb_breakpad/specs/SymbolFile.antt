@@ -5,11 +5,11 @@ use Rattle.std.specs.List.{All, flat_map}
 use Rattle.pdb_frames.specs.Frame.{FramesInfo}
 use Rattle.pdb_tables.specs.declared.segment.Segment.{Segment}
 use Rattle.pdb_breakpad.specs.declared.function_records.FunctionRecords.{FunctionRecords}
-use Rattle.pdb_breakpad.specs.declared.module_records.ModuleIdentity.{ModuleIdentity}
-use Rattle.pdb_breakpad.specs.declared.numbers.Numbers.{Numbers}
+use Rattle.pdb_breakpad.specs.declared.module_record.ModuleIdentity.{ModuleIdentity}
+use Rattle.pdb_breakpad.specs.declared.record_numbers.Numbers.{Numbers}
 use Rattle.pdb_breakpad.specs.FunctionTexts.{function_text}
-use Rattle.pdb_breakpad.specs.Functions.{AreFunctions}
-use Rattle.pdb_breakpad.specs.ModuleRecords.{AreModuleRecords}
+use Rattle.pdb_breakpad.specs.FunctionWalk.{AreFunctions}
+use Rattle.pdb_breakpad.specs.ModuleRecord.{AreModuleRecords}
 use Rattle.pdb_breakpad.specs.NameRecords.{name_records}
 use Rattle.pdb_breakpad.specs.WrittenRecords.{FitNumbers, FitTypes, InlinesAscend}
 
@@ -23,7 +23,7 @@ abbrev pub symbol_file_text : List ℕ → Numbers → List (Segment ℕ) → Li
 symbol_file_text front numbers parameters functions =
     front ++ (names_text numbers ++ flat_map (function_text parameters) functions)
 
--- the text of a symbol file was written: behind the records of this module those of files and names, by numbers that
+-- the text of a symbol file was written: after the records of this module those of files and names, by numbers that
 -- fit, and those of functions that are right at each address by these numbers, have these sizes of parameters, fit their
 -- types and have inlined calls that ascend
 pub record WritesSymbolFile {S : Type 0} (answers : S → ℕ → Option FramesInfo → Type 0) (source : S)

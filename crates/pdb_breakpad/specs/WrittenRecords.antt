@@ -4,9 +4,9 @@ use Rattle.std.specs.List.{All}
 use Rattle.pdb_tables.specs.declared.segment.Segment.{Segment}
 use Rattle.pdb_breakpad.specs.declared.address_spans.Span.{Span}
 use Rattle.pdb_breakpad.specs.declared.function_records.FunctionRecords.{FunctionRecords}
-use Rattle.pdb_breakpad.specs.declared.numbers.Numbers.{Numbers}
+use Rattle.pdb_breakpad.specs.declared.record_numbers.Numbers.{Numbers}
 use Rattle.pdb_breakpad.specs.declared.inline_records.InlinedCall.{InlinedCall}
-use Rattle.pdb_breakpad.specs.declared.numbered_code.Place.{Place}
+use Rattle.pdb_breakpad.specs.declared.numbered_code.SourceLocation.{SourceLocation}
 use Rattle.pdb_breakpad.specs.AddressSpans.{Ascend}
 use Rattle.pdb_breakpad.specs.FunctionTexts.{parameter_size}
 
@@ -15,7 +15,7 @@ abbrev pub FitsSpan : {T : Type 0} → (T → Type 0) → Span T → Type 0
 FitsSpan Fits span = (span.start < 2 ^ 32) × (span.last < 2 ^ 32) × Fits span.content
 
 -- a place fits its type
-abbrev pub FitsPlace : Place → Type 0
+abbrev pub FitsPlace : SourceLocation → Type 0
 FitsPlace place = (place.file < 2 ^ 64) × (place.line < 2 ^ 32)
 
 -- an inlined call fits its type

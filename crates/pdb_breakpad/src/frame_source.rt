@@ -5,7 +5,7 @@ ghost use Rattle.pdb_frames.specs.Frame.{FramesInfo};
 ghost use Rattle.pdb_breakpad.specs.FrameSource.{KeepsAnswers};
 ghost use Rattle.pdb_breakpad.specs.Pieces.{ArePieces};
 
-use crate::faults::SymbolFileFault;
+use crate::symbol_file_error::SymbolFileError;
 use pdb_addr2line::FunctionFrames;
 use pdb_change_points::change_points;
 use pdb_session::SessionContext;
@@ -18,12 +18,12 @@ pub trait FrameSource<'a> {
 
     /// Where the pieces of the program begin, ascending: the first at address 0. Over all addresses of a piece the
     /// answer is the same.
-    fn piece_starts(&mut self, alloc: Global) -> Result<Vec<u32>, SymbolFileFault>
+    fn piece_starts(&mut self, alloc: Global) -> Result<Vec<u32>, SymbolFileError>
         ensures pieces { IfOk result (λ starts. ArePieces answers self.new starts.items) }
         ensures inputs { KeepsAnswers answers self.old self.new };
 
     /// The functions in whose code an address lies, from inside to outside. `None` where no function is known there.
-    fn find_frames(&mut self, address: u32) -> Result<Option<FunctionFrames<'a>>, SymbolFileFault>
+    fn find_frames(&mut self, address: u32) -> Result<Option<FunctionFrames<'a>>, SymbolFileError>
         ensures answer { IfOk result (λ found. answers self.old address found) }
         ensures inputs { KeepsAnswers answers self.old self.new };
 
@@ -37,17 +37,17 @@ impl<'a> FrameSource<'a> for SessionContext<'a, '_> {
 
     ghost answers = { λ context address answer. IsAnswerOverAll context address answer };
 
-    fn piece_starts(&mut self, alloc: Global) -> Result<Vec<u32>, SymbolFileFault> {
+    fn piece_starts(&mut self, alloc: Global) -> Result<Vec<u32>, SymbolFileError> {
         match self.all_records() {
             Some(records) => Ok(change_points(alloc, records)?),
-            None => Err(SymbolFileFault::NotRead),
+            None => Err(SymbolFileError::NotRead),
         }
     }
 
-    fn find_frames(&mut self, address: u32) -> Result<Option<FunctionFrames<'a>>, SymbolFileFault> {
+    fn find_frames(&mut self, address: u32) -> Result<Option<FunctionFrames<'a>>, SymbolFileError> {
         match SessionContext::find_frames(self, address) {
             Ok(found) => Ok(found),
-            Err(fault) => Err(SymbolFileFault::from(fault)),
+            Err(fault) => Err(SymbolFileError::from(fault)),
         }
     }
 

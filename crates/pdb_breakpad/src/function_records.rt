@@ -12,12 +12,12 @@ ghost use Rattle.pdb_breakpad.specs.ShownFrames.{answer_shown, own_name};
 ghost use Rattle.pdb_breakpad.specs.WrittenRecords.{AreReadable, FitsPlace, FitsSpan};
 
 use crate::address_spans::{AddressSpans, Span, size_between};
-use crate::frame_texts::{are_equal, function_name};
 use crate::inline_records::InlineRecords;
 use crate::name_text::push_name;
-use crate::numbered_code::{NumberedCode, Place, number_code};
-use crate::numbers::Numbers;
+use crate::numbered_code::{NumberedCode, SourceLocation, number_code};
 use crate::pieces::Piece;
+use crate::record_numbers::Numbers;
+use crate::shown_names::{are_equal, function_name};
 use pdb_addr2line::FunctionFrames;
 use pdb_tables::{Probes, Segments};
 use std::alloc::{AllocError, Global};
@@ -32,7 +32,7 @@ pub(crate) struct FunctionRecords<'a> {
     start: u32,
     last: u32,
     inlines: InlineRecords,
-    lines: AddressSpans<Place>,
+    lines: AddressSpans<SourceLocation>,
 }
 
 impl<'a> FunctionRecords<'a> {
@@ -183,11 +183,11 @@ fn push_head(
     }
 }
 
-// Adds the place of the code over a piece, which stands behind all others.
+// Adds the place of the code over a piece, which stands after all others.
 fn add_line(
-    lines: &mut AddressSpans<Place>,
+    lines: &mut AddressSpans<SourceLocation>,
     piece: Piece,
-    place: Place,
+    place: SourceLocation,
     goes_on: bool,
 ) -> Result<(), AllocError>
     requires order { EndBefore piece.first lines.old }
@@ -204,7 +204,7 @@ fn add_line(
 }
 
 // Appends the records of lines.
-fn push_lines(text: &mut String, lines: &AddressSpans<Place>) -> Result<(), AllocError>
+fn push_lines(text: &mut String, lines: &AddressSpans<SourceLocation>) -> Result<(), AllocError>
     ensures state { OnOk result (string_bytes text.new ≡ string_bytes text.old ++ flat_map line_line lines.now) }
     ensures order { Ascend lines.now }
     ensures fits { OnOk result (All (FitsSpan FitsPlace) lines.now) }
@@ -217,11 +217,11 @@ fn push_lines(text: &mut String, lines: &AddressSpans<Place>) -> Result<(), Allo
 
 // Appends the record of a line.
 #[tactic(auto, unfolding(crate::specs::FunctionTexts::line_line))]
-fn push_line(text: &mut String, span: &Span<Place>) -> Result<(), AllocError>
+fn push_line(text: &mut String, span: &Span<SourceLocation>) -> Result<(), AllocError>
     ensures state { OnOk result (string_bytes text.new ≡ string_bytes text.old ++ line_line span.now) }
     ensures fits { FitsSpan FitsPlace span.now }
 {
-    let Place { file, line } = span.content;
+    let SourceLocation { file, line } = span.content;
     let start = span.start;
     let size = size_between(start, span.last);
     write!(text, "{start:x} {size:x} {line} {file}\n")

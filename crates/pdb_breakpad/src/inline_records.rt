@@ -9,7 +9,7 @@ ghost use Rattle.pdb_breakpad.specs.InlineRecords.{call_at, call_before, calls_a
 ghost use Rattle.pdb_breakpad.specs.WrittenRecords.{FitsCall, FitsSpan};
 
 use crate::address_spans::{AddressSpans, Span, size_between};
-use crate::numbered_code::Place;
+use crate::numbered_code::SourceLocation;
 use crate::pieces::Piece;
 use pdb_tables::{Keyed, sort_by_key};
 use std::alloc::{AllocError, Global};
@@ -19,7 +19,7 @@ use std::marker::Model;
 #[derive(Clone, Copy, PartialEq, Eq)]
 pub(crate) struct InlinedCall {
     /// Where the call stands.
-    pub place: Place,
+    pub place: SourceLocation,
     /// The number of the called function's name.
     pub origin: usize,
 }
@@ -71,7 +71,7 @@ impl InlineRecords {
         }
     }
 
-    /// Adds the calls over a piece behind all others, from outside to inside. A call goes on that stood at its level
+    /// Adds the calls over a piece after all others, from outside to inside. A call goes on that stood at its level
     /// at the address before, if all outside of it go on.
     pub(crate) fn add(&mut self, piece: Piece, calls: &[InlinedCall]) -> Result<(), AllocError>
         requires order { (level : ℕ) → LevelEndsBefore piece.first self.old level }
@@ -95,7 +95,7 @@ impl InlineRecords {
         self.levels.get(level)?.content_before(address)
     }
 
-    // Adds the call at a level over a piece, which stands behind all others of its level.
+    // Adds the call at a level over a piece, which stands after all others of its level.
     fn add_call(
         &mut self,
         level: usize,
@@ -196,7 +196,7 @@ fn push_record(text: &mut String, inline_record: &InlineRecord) -> Result<(), Al
 {
     let InlineRecord { level, span } = inline_record;
     let InlinedCall {
-        place: Place { file, line },
+        place: SourceLocation { file, line },
         origin,
     } = span.content;
     let start = span.start;

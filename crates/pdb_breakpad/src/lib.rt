@@ -6,20 +6,20 @@
 
 mod address_spans;
 mod cache_shares;
-mod faults;
 mod frame_source;
-mod frame_texts;
 mod function_records;
-mod functions;
+mod function_walk;
 mod inline_records;
-mod module_records;
+mod module_record;
 mod name_text;
 mod numbered_code;
-mod numbers;
 mod pieces;
+mod record_numbers;
+mod shown_names;
 mod symbol_file;
+mod symbol_file_error;
 
-pub use faults::SymbolFileFault;
 pub use frame_source::FrameSource;
-pub use module_records::{ModuleIdentity, ProgramIdentity};
+pub use module_record::{ModuleIdentity, ProgramIdentity};
 pub use symbol_file::write_symbol_file;
+pub use symbol_file_error::SymbolFileError;

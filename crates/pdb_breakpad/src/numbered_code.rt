@@ -1,19 +1,19 @@
 //! What is known of the code at an address, with names by their numbers.
 
 ghost use Rattle.std.specs.Prelude.{◌≡◌, map, IfOk};
-ghost use Rattle.pdb_breakpad.specs.FrameTexts.{frame_text};
+ghost use Rattle.pdb_breakpad.specs.ShownNames.{frame_text};
 ghost use Rattle.pdb_breakpad.specs.NumberedCode.{IsCall, IsPlace, IsOptionalPlace, AreCalls, IsCode, KeepsAllNames};
 ghost use Rattle.pdb_breakpad.specs.ShownFrames.{calls_in, innermost_place, own_place, place_of};
 
-use crate::frame_texts::{file_name, function_name};
 use crate::inline_records::InlinedCall;
-use crate::numbers::Numbers;
+use crate::record_numbers::Numbers;
+use crate::shown_names::{file_name, function_name};
 use pdb_addr2line::Frame;
 use std::alloc::{AllocError, Global};
 
 /// A place in a source file.
 #[derive(Clone, Copy, PartialEq, Eq)]
-pub(crate) struct Place {
+pub(crate) struct SourceLocation {
     pub file: usize,
     pub line: u32,
 }
@@ -24,7 +24,7 @@ pub(crate) struct NumberedCode {
     /// The inlined calls, from outside to inside.
     pub calls: Vec<InlinedCall>,
     /// Where the code comes from, if that is known.
-    pub place: Option<Place>,
+    pub place: Option<SourceLocation>,
 }
 
 #[tactic(auto, using(crate::proofs::FunctionRecordLemmas::keeps_calls))]
@@ -74,19 +74,22 @@ fn number_call(
 }
 
 // The place of a frame.
-fn number_place(numbers: &mut Numbers, frame: &Frame<'_>) -> Result<Place, AllocError>
+fn number_place(numbers: &mut Numbers, frame: &Frame<'_>) -> Result<SourceLocation, AllocError>
     ensures answer { IfOk result (λ place. IsPlace numbers.new place (place_of (frame_text frame.now))) }
     ensures state { KeepsAllNames numbers.old numbers.new }
 {
     let file = numbers.files.number_of(file_name(frame))?;
-    Ok(Place {
+    Ok(SourceLocation {
         file,
         line: frame.line.unwrap_or(0),
     })
 }
 
 // The place of the innermost frame, if its file or its line is known.
-fn number_own_place(numbers: &mut Numbers, frame: &Frame<'_>) -> Result<Option<Place>, AllocError>
+fn number_own_place(
+    numbers: &mut Numbers,
+    frame: &Frame<'_>,
+) -> Result<Option<SourceLocation>, AllocError>
     ensures answer { IfOk result (λ place. IsOptionalPlace numbers.new place (own_place (frame_text frame.now))) }
     ensures state { KeepsAllNames numbers.old numbers.new }
 {
@@ -101,7 +104,7 @@ fn number_own_place(numbers: &mut Numbers, frame: &Frame<'_>) -> Result<Option<P
 fn number_innermost_place(
     numbers: &mut Numbers,
     frames: &[Frame<'_>],
-) -> Result<Option<Place>, AllocError>
+) -> Result<Option<SourceLocation>, AllocError>
     ensures answer { IfOk result (λ place.
         IsOptionalPlace numbers.new place (innermost_place (map frame_text frames.now))) }
     ensures state { KeepsAllNames numbers.old numbers.new }

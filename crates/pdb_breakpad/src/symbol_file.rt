@@ -2,17 +2,17 @@
 
 ghost use Rattle.std.specs.Prelude.{◌≡◌, ◌++◌, ℕ, List, [], Some, IfOk, OnOk, string_bytes};
 ghost use Rattle.std.specs.Io.KnownBytes.{Appends};
-ghost use Rattle.pdb_breakpad.specs.Functions.{WritesFunctions};
-ghost use Rattle.pdb_breakpad.specs.ModuleRecords.{AreModuleRecords};
+ghost use Rattle.pdb_breakpad.specs.FunctionWalk.{WritesFunctions};
+ghost use Rattle.pdb_breakpad.specs.ModuleRecord.{AreModuleRecords};
 ghost use Rattle.pdb_breakpad.specs.Pieces.{ArePieces};
 ghost use Rattle.pdb_breakpad.specs.SymbolFile.{WritesSymbolFile, names_text};
 ghost use Rattle.pdb_breakpad.specs.WrittenRecords.{FitNumbers};
 
-use crate::faults::SymbolFileFault;
 use crate::frame_source::FrameSource;
-use crate::functions::write_functions;
-use crate::module_records::{ModuleIdentity, module_records};
-use crate::numbers::{NameKind, Numbers};
+use crate::function_walk::write_functions;
+use crate::module_record::{ModuleIdentity, module_records};
+use crate::record_numbers::{NameKind, Numbers};
+use crate::symbol_file_error::SymbolFileError;
 use pdb_tables::Segments;
 use std::alloc::{AllocError, Global};
 use std::io;
@@ -34,7 +34,7 @@ pub fn write_symbol_file<'a, S: FrameSource<'a>, W: io::Write>(
     identity: &ModuleIdentity<'_>,
     parameters: &Segments<u32>,
     source: &mut S,
-) -> Result<(), SymbolFileFault>
+) -> Result<(), SymbolFileError>
     ensures { OnOk result (WritesSymbolFile S.answers source.old identity.now parameters.now
         (W.contents out.old) (W.contents out.new)) }
 {
@@ -55,7 +55,7 @@ fn functions_text<'a, S: FrameSource<'a>>(
     numbers: &mut Numbers,
     parameters: &Segments<u32>,
     points: &[u32],
-) -> Result<Vec<u8>, SymbolFileFault>
+) -> Result<Vec<u8>, SymbolFileError>
     requires pieces { ArePieces S.answers source.old points.now }
     ensures { IfOk result (λ text. WritesFunctions parameters.now S.answers source.old numbers.new
         (Some []) (Some text.items)) }
@@ -71,7 +71,7 @@ fn write_front<W: io::Write>(
     out: &mut W,
     identity: &ModuleIdentity<'_>,
     numbers: &Numbers,
-) -> Result<(), SymbolFileFault>
+) -> Result<(), SymbolFileError>
     ensures { OnOk result ((front : List ℕ) × AreModuleRecords identity.now front
         × Appends (W.contents out.old) (W.contents out.new) (front ++ names_text numbers.now)) }
 {

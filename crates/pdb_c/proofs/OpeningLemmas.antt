@@ -9,10 +9,10 @@ use Rattle.pdb_addr2line.specs.ContextData.{records_refusal, default_flags, cont
 use Rattle.pdb_addr2line.specs.Calls.{fresh}
 use Rattle.pdb_report_lib.specs.declared.reports.Command.{Command}
 use Rattle.pdb_report_lib.specs.FileReports.{opened}
-use Rattle.pdb_c.specs.declared.refusals.Refusal.{Refusal}
-use Rattle.pdb_c.specs.declared.refusals.Refusal.TheVariants as refusal
-use Rattle.pdb_c.specs.Refusals.{code}
-use Rattle.pdb_c.specs.Texts.{records_in, text_of_context, text_over, asked_text}
+use Rattle.pdb_c.specs.declared.call_error.CallError.{CallError}
+use Rattle.pdb_c.specs.declared.call_error.CallError.TheVariants as refusal
+use Rattle.pdb_c.specs.CallError.{code}
+use Rattle.pdb_c.specs.ReportTexts.{records_in, text_of_context, text_over, asked_text}
 use Rattle.pdb_c.specs.Openings.{unless_refused, accepted_records, fresh_context, context_over}
 use Rattle.pdb_c.specs.Openings.{context_to_open, held_by, LeavesOpened, LeavesOver, LeavesFile, Opens}
 use Rattle.pdb_c.specs.Questions.{text_of_handle}
@@ -36,7 +36,7 @@ opened_alike command None records context addresses is =
 opened_alike command (Some error) records context addresses is = absurd cc
 
 -- the same of records that were read
-read_alike : (command : Command) (read : Result Records Refusal) (context : ContextState Records)
+read_alike : (command : Command) (read : Result Records CallError) (context : ContextState Records)
     (addresses : List ℕ) → and_then (and_then read accepted_records) context_over ≡ Ok context
     → and_then read (λ records. text_over command (opened records) addresses)
     ≡ text_of_context command context addresses
@@ -53,7 +53,7 @@ asked_alike command bytes (address ∷ addresses) context is =
     sym (read_alike command (records_in bytes []) context (address ∷ addresses) is)
 
 -- there is no text over records that have no context
-no_text : (command : Command) (made : Result (ContextInputs Records) Error) (addresses : List ℕ) (why : Refusal)
+no_text : (command : Command) (made : Result (ContextInputs Records) Error) (addresses : List ℕ) (why : CallError)
     → fresh_context made ≡ Err why → text_over command made addresses ≡ Err why
 no_text command (Ok context) addresses why is = absurd cc
 no_text command (Err error) addresses why is =
@@ -61,7 +61,7 @@ no_text command (Err error) addresses why is =
     ap (λ r. Err r) same
 
 -- the same of records that may be refused
-refused_text : (command : Command) (refused : Option Error) (records : Records) (addresses : List ℕ) (why : Refusal)
+refused_text : (command : Command) (refused : Option Error) (records : Records) (addresses : List ℕ) (why : CallError)
     → and_then (unless_refused refused records) context_over ≡ Err why
     → text_over command (unless refused (context_of default_flags records)) addresses ≡ Err why
 refused_text command None records addresses why is =
@@ -71,7 +71,7 @@ refused_text command (Some error) records addresses why is =
     ap (λ r. Err r) same
 
 -- bytes that can't be opened are refused alike
-pub refused_alike : (command : Command) (read : Result Records Refusal) (addresses : List ℕ) (why : Refusal)
+pub refused_alike : (command : Command) (read : Result Records CallError) (addresses : List ℕ) (why : CallError)
     → and_then (and_then read accepted_records) context_over ≡ Err why
     → and_then read (λ records. text_over command (opened records) addresses) ≡ Err why
 refused_alike command (Ok records) addresses why is =
@@ -86,7 +86,7 @@ pub refuses : (records : Records) (error : Error) → records_refusal records �
 refuses records error is = ap (λ r. unless_refused r records) is
 
 -- where nothing is held for a refusal, it is that of the context
-pub not_held : (wanted : Result (ContextState Records) Refusal) (why : Refusal)
+pub not_held : (wanted : Result (ContextState Records) CallError) (why : CallError)
     → held_by wanted ≡ Err why → wanted ≡ Err why
 not_held (Ok context) why is = absurd cc
 not_held (Err other) why is =
@@ -100,7 +100,7 @@ file_left bytes answer held (Some context) left = (left, refl)
 file_left bytes answer held None left = absurd left
 
 -- an opening that was answered
-pub opens : (wanted : Result (ContextState Records) Refusal) (held : Option (ContextState Records)) (answer : ℤ)
+pub opens : (wanted : Result (ContextState Records) CallError) (held : Option (ContextState Records)) (answer : ℤ)
     → answer ≡ pos 0 → held_by wanted ≡ Ok held → Opens wanted held answer
 opens (Ok context) held answer is left =
     let same : held ≡ Some context = cc in
@@ -108,6 +108,6 @@ opens (Ok context) held answer is left =
 opens (Err why) held answer is left = absurd cc
 
 -- the numbers of refusals fit the answer's type
-pub code_fits : (why : Refusal) → to_z w64 (of_z w64 (code why)) ≡ code why
+pub code_fits : (why : CallError) → to_z w64 (of_z w64 (code why)) ≡ code why
 code_fits refusal.NoAddresses = refl
 code_fits _ = refl

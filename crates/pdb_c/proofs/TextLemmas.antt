@@ -5,14 +5,14 @@ use Rattle.pdb_records.specs.Records.{Records}
 use Rattle.pdb_errors.specs.declared.error.Error.{Error}
 use Rattle.pdb_errors.specs.declared.error.Error.TheVariants.{OutOfMemory}
 use Rattle.pdb_errors.specs.Outcomes.{and_then, unless}
-use Rattle.pdb_errors.specs.Provided.{ProviderInfos}
+use Rattle.pdb_records.specs.Provided.{ProviderInfos}
 use Rattle.pdb_frames.specs.CodeParts.{CodeParts}
 use Rattle.pdb_addr2line.specs.ContextInputs.{ContextInputs, ContextState}
 use Rattle.pdb_addr2line.specs.ContextData.{records_refusal, default_flags, context_of}
 use Rattle.pdb_addr2line.specs.Calls.{fresh}
-use Rattle.pdb_json_values.specs.Faults.{Fault, IsFaultOf}
-use Rattle.pdb_json_values.specs.declared.faults.RecordFault.{RecordFault}
-use Rattle.pdb_json_values.specs.declared.faults.RecordFault.TheVariants as fault
+use Rattle.pdb_json_values.specs.RecordFault.{Fault, IsFaultOf}
+use Rattle.pdb_json_values.specs.declared.record_fault.RecordFault.{RecordFault}
+use Rattle.pdb_json_values.specs.declared.record_fault.RecordFault.TheVariants as fault
 use Rattle.pdb_report_lib.specs.declared.reports.Command.{Command}
 use Rattle.pdb_report_lib.specs.declared.reports.Command.TheVariants.{Names, Frames}
 use Rattle.pdb_report_lib.specs.declared.reports.Command.TheVariants as wanted
@@ -22,11 +22,11 @@ use Rattle.pdb_report_lib.specs.FileReports.{opened}
 use Rattle.pdb_report_lib.specs.Sinks.{SinkState}
 use Rattle.pdb_report_lib.specs.Reports.{addresses_text, function_text, stack_text, report_text, TakesText, EndsAt}
 use Rattle.pdb_report_lib.specs.Reports.{EndsEarly}
-use Rattle.pdb_c.specs.declared.refusals.Refusal.{Refusal}
-use Rattle.pdb_c.specs.declared.refusals.Refusal.TheVariants as refusal
-use Rattle.pdb_c.specs.Refusals.{refusal_of, refusal_of_fault, refusal_or_memory, refusal_of_records, refusal_of_report}
+use Rattle.pdb_c.specs.declared.call_error.CallError.{CallError}
+use Rattle.pdb_c.specs.declared.call_error.CallError.TheVariants as refusal
+use Rattle.pdb_c.specs.CallError.{refusal_of, refusal_of_fault, refusal_or_memory, refusal_of_records, refusal_of_report}
 use Rattle.std.specs.Result.{IsErrAnd}
-use Rattle.pdb_c.specs.Texts.{with_refusal, text_of_context, text_over, Agrees}
+use Rattle.pdb_c.specs.ReportTexts.{with_refusal, text_of_context, text_over, Agrees}
 use Rattle.pdb_c.specs.Questions.{infos}
 
 -- two texts in a row, of which the second has an error wherever its start is a text
@@ -43,7 +43,7 @@ first_refused : (first : Result (List ℕ) Error) (error : Error) (next : List �
     → first ≡ Err error → and_then first next ≡ Err error
 first_refused first error next refused = rw refused refl
 
--- the first address whose text has an error, behind addresses that all have texts
+-- the first address whose text has an error, after addresses that all have texts
 text_refused : (text_of : ℕ → Result (List ℕ) Error) (addresses : List ℕ) (done address : ℕ) (error : Error)
     (texts : List ℕ)
     → slice_get addresses done ≡ Some address
@@ -93,12 +93,12 @@ report_taken (Ok b) before after held empty is taken =
 report_taken (Err e) before after held empty is taken = absurd taken
 
 -- an error that is not out of memory is answered as this refusal
-pub is_other : (why : Refusal) (error : Error) → error ≢ OutOfMemory → refusal_or_memory why error ≡ why
+pub is_other : (why : CallError) (error : Error) → error ≢ OutOfMemory → refusal_or_memory why error ≡ why
 is_other why OutOfMemory other = absurd (other refl)
 is_other why error other = refl
 
 -- an error that is not answered as out of memory is none
-pub not_memory : (why : Refusal) (error : Error)
+pub not_memory : (why : CallError) (error : Error)
     → refusal_or_memory why error ≢ refusal.OutOfMemory → error ≢ OutOfMemory
 not_memory why error other is = other (ap (λ e. refusal_or_memory why e) is)
 
@@ -130,8 +130,8 @@ pub address_refused : (command : Command) (context : ContextState Records) (addr
     → text_of_context command context addresses ≡ Err (refusal_of_report why)
 address_refused command context addresses before after (Lookup error) ends other =
     let no_memory = not_memory refusal.AddressRefused error other in
-    let refusal_at : Refusal → Result (List ℕ) Refusal = λ why. Err why in
-    let convert : Result (List ℕ) Error → Result (List ℕ) Refusal = with_refusal (λ e. refusal.AddressRefused) in
+    let refusal_at : CallError → Result (List ℕ) CallError = λ why. Err why in
+    let convert : Result (List ℕ) Error → Result (List ℕ) CallError = with_refusal (λ e. refusal.AddressRefused) in
     let text : report_text infos context.inputs context.code_failed command addresses ≡ Err error =
     report_refused infos context.inputs context.code_failed command addresses before after error no_memory ends in
     ap convert text ∙ ap refusal_at (sym (is_other refusal.AddressRefused error no_memory))
@@ -145,7 +145,7 @@ pub text_gathered : (command : Command) (context : ContextState Records) (addres
     → text_of_context command context addresses ≡ Ok held
 text_gathered command context addresses before after start held starts empty holds taken =
     let held_of : SinkState → Option (List ℕ) = λ s. s.held in
-    let convert : Result (List ℕ) Error → Result (List ℕ) Refusal = with_refusal (λ e. refusal.AddressRefused) in
+    let convert : Result (List ℕ) Error → Result (List ℕ) CallError = with_refusal (λ e. refusal.AddressRefused) in
     let text : report_text infos context.inputs context.code_failed command addresses ≡ Ok held =
     report_taken (report_text infos context.inputs context.code_failed command addresses) before after held
     (ap held_of starts ∙ empty) holds taken in
@@ -166,14 +166,14 @@ pub stream_failed : (records : Records) (error : Error)
 stream_failed records error refused = ap (λ r. unless r (context_of default_flags records)) refused
 
 -- a call that ends with what an error is answered as
-pub matches : {A B : Type 0} (seen : A → B) (r : Result A Refusal) (why : Refusal) (definition : Result B Refusal)
+pub matches : {A B : Type 0} (seen : A → B) (r : Result A CallError) (why : CallError) (definition : Result B CallError)
     → IsErrAnd r (λ given. given ≡ why) → (why ≢ refusal.OutOfMemory → definition ≡ Err why) → Agrees seen r definition
 matches seen (Ok a) why definition is at_why = absurd is
 matches seen (Err given) why definition is at_why =
     subst (λ w. w ≢ refusal.OutOfMemory → definition ≡ Err w) (sym is) at_why
 
 -- what is so of a refusal is so of a result that is it
-pub ends_with : {A : Type 0} (r : Result A Refusal) (why : Refusal) (P : Result A Refusal → Type 0)
+pub ends_with : {A : Type 0} (r : Result A CallError) (why : CallError) (P : Result A CallError → Type 0)
     → IsErrAnd r (λ given. given ≡ why) → P (Err why) → P r
 ends_with (Ok a) why P is so = absurd is
 ends_with (Err given) why P is so = subst (λ w. P (Err w)) (sym is) so

@@ -5,7 +5,7 @@ use Rattle.std.specs.Option.{option_map_or}
 use Rattle.pdb_frames.specs.Frame.{FramesInfo}
 use Rattle.pdb_function_info.specs.Function.{FunctionInfo}
 use Rattle.pdb_c.specs.declared.frame_rows.FrameRow.{FrameRow}
-use Rattle.pdb_c.specs.declared.found_frames.FoundFunction.{FoundFunction}
+use Rattle.pdb_c.specs.declared.found_frames.AnswerSizes.{AnswerSizes}
 use Rattle.pdb_c.specs.declared.found_frames.FoundFrames.{FoundFrames}
 use Rattle.pdb_c.specs.FrameRows.{rows_of, texts_of}
 
@@ -55,13 +55,13 @@ start_alone start = record { start_rva = start; end_rva = None; name = None }
 abbrev pub put_at_start : {A : Type 0} → List A → List A → List A
 put_at_start items room = items ++ drop (length items) room
 
--- whether rows and texts fit rooms
+-- whether rows and texts fit buffers
 abbrev pub fits : {A : Type 0} → Shown → List A → List ℕ → Bool
 fits found rows texts =
     nat_le (length found.rows) (length rows) && nat_le (length found.texts) (length texts)
 
 -- the size of an answer, and its function's addresses: whether it is known where the function ends is 1 or 0
-abbrev pub sizes : Shown → FoundFunction
+abbrev pub sizes : Shown → AnswerSizes
 sizes found = record {
   rows = length found.rows;
   texts = length found.texts;

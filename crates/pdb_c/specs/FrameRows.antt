@@ -14,16 +14,16 @@ abbrev pub place_at : ℕ → Option (List ℕ) → TextPlace
 place_at start (Some text) = known_place start text
 place_at start None = record { start = 18446744073709551615; length = 0 }
 
--- a text with a 0 behind it
+-- a text with a 0 after it
 abbrev pub ended : List ℕ → List ℕ
 ended text = text ++ (0 ∷ [])
 
--- a text with a 0 behind it, if it is known
+-- a text with a 0 after it, if it is known
 abbrev pub ended_or_none : Option (List ℕ) → List ℕ
 ended_or_none (Some text) = ended text
 ended_or_none None = []
 
--- the texts of a frame: its function's, and behind it its file's
+-- the texts of a frame: its function's, and after it its file's
 abbrev pub frame_texts : FrameInfo → List ℕ
 frame_texts frame = ended_or_none frame.function ++ ended_or_none (known_text frame.file)
 

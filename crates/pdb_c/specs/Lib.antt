@@ -1,12 +1,12 @@
-pub mod Refusals
-pub mod Texts
+pub mod CallError
+pub mod ReportTexts
 pub mod Buffers
 pub mod Handles
 pub mod Machines
-pub mod ModuleFiles
+pub mod ModuleContents
 pub mod Openings
 pub mod FrameRows
 pub mod FoundFrames
 pub mod Questions
-pub mod FrameAnswers
-pub mod Versions
+pub mod AnswerBuffers
+pub mod LibraryVersion

@@ -5,27 +5,27 @@ use Rattle.pdb_errors.specs.Outcomes.{and_then}
 use Rattle.pdb_container.specs.declared.identity.PdbIdentity.{PdbIdentity}
 use Rattle.pdb_container.specs.DebugRecords.{of_file}
 use Rattle.pdb_container.specs.Identity.{identity}
-use Rattle.pdb_c.specs.declared.refusals.Refusal.{Refusal}
-use Rattle.pdb_c.specs.declared.refusals.Refusal.TheVariants.{NoDebugId}
-use Rattle.pdb_c.specs.Refusals.{code, refusal_of_container}
-use Rattle.pdb_c.specs.Texts.{Agrees, with_refusal}
+use Rattle.pdb_c.specs.declared.call_error.CallError.{CallError}
+use Rattle.pdb_c.specs.declared.call_error.CallError.TheVariants.{NoDebugId}
+use Rattle.pdb_c.specs.CallError.{code, refusal_of_container}
+use Rattle.pdb_c.specs.ReportTexts.{Agrees, with_refusal}
 
 -- the number of the processor in a file's identity: 0 where that says none, and refused where there is no identity
-abbrev pub number_in : Option PdbIdentity → Result ℕ Refusal
+abbrev pub number_in : Option PdbIdentity → Result ℕ CallError
 number_in None = Err NoDebugId
 number_in (Some found) = Ok (option_map_or (λ machine. machine.0) found.machine 0)
 
 -- the number of the processor that the program of a PDB file is for, by the file's bytes
-abbrev pub machine_number : List ℕ → Result ℕ Refusal
+abbrev pub machine_number : List ℕ → Result ℕ CallError
 machine_number bytes = and_then (with_refusal refusal_of_container (of_file identity bytes)) number_in
 
 -- a number, or that of a refusal
-abbrev pub number_or_code : Result ℕ Refusal → ℤ
+abbrev pub number_or_code : Result ℕ CallError → ℤ
 number_or_code (Ok number) = pos number
 number_or_code (Err refusal) = code refusal
 
 -- how a call ends that is asked for a number: as of what is asked, unless memory ran out
-pub record EndsWithNumber (asked : Result ℕ Refusal) (answer : ℤ) : Type 0 where
-  pub found : Result ℕ Refusal
+pub record EndsWithNumber (asked : Result ℕ CallError) (answer : ℤ) : Type 0 where
+  pub found : Result ℕ CallError
   pub agrees : Agrees (λ number. number) found asked
   pub is : answer ≡ number_or_code found

@@ -3,7 +3,7 @@
 ghost use Rattle.std.specs.Prelude.{Ok};
 ghost use Rattle.pdb_c.specs.Buffers.{Answers, gathered};
 
-use crate::refusals::Refusal;
+use crate::call_error::CallError;
 
 // Writes a text to the start of the caller's buffer where it fits there, says its length, and answers it.
 fn write_text(text: &[u8], buffer: &mut [u8], wanted: &mut usize) -> i64
@@ -12,14 +12,18 @@ fn write_text(text: &[u8], buffer: &mut [u8], wanted: &mut usize) -> i64
     let length = text.len();
     *wanted = length;
     if length > buffer.len() {
-        return Refusal::BufferTooSmall.code();
+        return CallError::BufferTooSmall.code();
     }
     buffer[..length].copy_from_slice(text);
     length as i64
 }
 
 // Writes what a call found to the caller's buffer, and answers the text's length, or the refusal's number.
-pub(crate) fn answer(found: Result<Vec<u8>, Refusal>, buffer: &mut [u8], wanted: &mut usize) -> i64
+pub(crate) fn answer(
+    found: Result<Vec<u8>, CallError>,
+    buffer: &mut [u8],
+    wanted: &mut usize,
+) -> i64
     ensures { Answers (gathered found) buffer.old buffer.new wanted.new result }
 {
     match found {

@@ -1,10 +1,10 @@
 //! Contexts over records that a handle owns, in memory of their own.
 ghost use Rattle.std.specs.Prelude.{◌≡◌};
-ghost use Rattle.pdb_c.specs.Texts.{Agrees};
+ghost use Rattle.pdb_c.specs.ReportTexts.{Agrees};
 ghost use Rattle.pdb_c.specs.Openings.{context_over};
 
+use crate::call_error::CallError;
 use crate::handle::loose::Loose;
-use crate::refusals::Refusal;
 use pdb_addr2line::{Context, ContextPdbData};
 use std::alloc::Global;
 
@@ -12,13 +12,13 @@ use std::alloc::Global;
 pub(crate) fn context_over<'a>(
     alloc: Global,
     records: &'a ContextPdbData<'static>,
-) -> Result<Loose<Context<'a, ContextPdbData<'static>>, Global>, Refusal>
+) -> Result<Loose<Context<'a, ContextPdbData<'static>>, Global>, CallError>
     ensures { Agrees (λ context. context.value) result (context_over records.now) }
 {
     let context = records.make_context()?;
     match Box::new(alloc, context) {
         Ok(context) => Ok(Loose::of(context)),
-        Err(_) => Err(Refusal::OutOfMemory),
+        Err(_) => Err(CallError::OutOfMemory),
     }
 }
 
@@ -28,7 +28,10 @@ pub(crate) fn give_back(context: Loose<Context<'_, ContextPdbData<'static>>, Glo
 }
 
 // Gives records back that have no context, and answers why.
-pub(crate) fn refuse(records: Loose<ContextPdbData<'static>, Global>, refusal: Refusal) -> Refusal
+pub(crate) fn refuse(
+    records: Loose<ContextPdbData<'static>, Global>,
+    refusal: CallError,
+) -> CallError
     ensures { result ≡ refusal }
 {
     drop(records.into_box());

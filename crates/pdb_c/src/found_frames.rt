@@ -15,7 +15,7 @@ pub(crate) enum Question<'q> {
     Frames(u32),
     /// The function whose code an address lies in.
     Function(u32),
-    /// The first function that starts at an address or behind it, of which nothing else is asked.
+    /// The first function that starts at an address or after it, of which nothing else is asked.
     NextStart(u32),
     /// The text of a report of addresses.
     Report(Command, &'q [u32]),
@@ -24,22 +24,22 @@ pub(crate) enum Question<'q> {
 /// How large an answer is, and the addresses of its function.
 #[repr(C)]
 #[derive(Clone, Copy)]
-pub struct FoundFunction {
+pub struct AnswerSizes {
     /// How many rows the answer has, and how many bytes its texts.
     pub rows: usize,
     pub texts: usize,
     /// Where the function starts, relative to where the program is loaded.
     pub start: u32,
-    /// The address of the first byte behind it, if it is known, and whether it is: 1, or else 0.
+    /// The address of the first byte after it, if it is known, and whether it is: 1, or else 0.
     pub end: u32,
     pub end_known: u32,
 }
 
 // The size of what is found, and its function's addresses.
-pub(crate) fn sizes(found: &FoundFrames) -> FoundFunction
+pub(crate) fn sizes(found: &FoundFrames) -> AnswerSizes
     ensures { result ≡ sizes (shown_view found.now) }
 {
-    FoundFunction {
+    AnswerSizes {
         rows: found.rows.len(),
         texts: found.texts.len(),
         start: found.start,
@@ -150,7 +150,7 @@ pub(crate) fn function_from(start: Option<u32>) -> Option<Function>
 }
 
 // What is found of a function, where there is one.
-pub(crate) fn found_function(
+pub(crate) fn function_match(
     alloc: Global,
     found: Option<Function>,
 ) -> Result<FoundFrames, AllocError>

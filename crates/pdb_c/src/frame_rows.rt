@@ -29,7 +29,7 @@ pub struct FrameRow {
     pub line: u32,
 }
 
-// Appends a text with a 0 behind it, and answers where it stands.
+// Appends a text with a 0 after it, and answers where it stands.
 fn append_text(texts: &mut Vec<u8>, text: &str) -> Result<TextPlace, AllocError>
     ensures place { IfOk result (λ place. place ≡ known_place (length texts.old.items) text.now) }
     ensures state { OnOk result (texts.new.items ≡ texts.old.items ++ ended text.now) }

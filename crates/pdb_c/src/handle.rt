@@ -2,16 +2,16 @@
 ghost use Rattle.std.specs.Prelude.{◌≡◌, Option, None};
 ghost use Rattle.pdb_records.specs.Records.{Records};
 ghost use Rattle.pdb_addr2line.specs.ContextInputs.{ContextState};
-ghost use Rattle.pdb_c.specs.Texts.{Agrees};
+ghost use Rattle.pdb_c.specs.ReportTexts.{Agrees};
 ghost use Rattle.pdb_c.specs.Openings.{context_over, held_by, LeavesOpened};
 ghost use Rattle.pdb_c.specs.Questions.{AnswersHeld, LeavesHeld, AnswersHandle, LeavesHandle};
 
 pub(crate) mod loose;
 
+use crate::answer_buffers::answer_in;
+use crate::call_error::CallError;
 use crate::contexts::{context_over, give_back, refuse};
 use crate::found_frames::{FoundFrames, Question};
-use crate::frame_answers::answer_in;
-use crate::refusals::Refusal;
 use loose::Loose;
 use pdb_addr2line::{Context, ContextPdbData};
 use std::alloc::Global;
@@ -19,7 +19,7 @@ use std::marker::Model;
 use std::mem::replace;
 use std::ptr::null_mut;
 
-/// Records that were opened and a context over them, each behind a pointer, or none, where the second pointer is null.
+/// Records that were opened and a context over them, each after a pointer, or none, where the second pointer is null.
 /// No type that leads to a list may cross to C, so the pointers' own type names nothing.
 #[repr(C)]
 pub struct Handle {
@@ -49,7 +49,7 @@ impl Handle {
     }
 
     // A handle that holds these records and a context over them.
-    fn over(records: Loose<ContextPdbData<'static>, Global>) -> Result<Handle, Refusal>
+    fn over(records: Loose<ContextPdbData<'static>, Global>) -> Result<Handle, CallError>
         ensures { Agrees (λ handle. handle.held) result (held_by (context_over records.entry.value)) }
     {
         let Loose { at, alloc } = records;
@@ -64,7 +64,11 @@ impl Handle {
     }
 
     // What the context answers to a question, if there is one.
-    fn ask(&mut self, alloc: Global, question: Question<'_>) -> Option<Result<FoundFrames, Refusal>>
+    fn ask(
+        &mut self,
+        alloc: Global,
+        question: Question<'_>,
+    ) -> Option<Result<FoundFrames, CallError>>
         ensures answer { AnswersHeld result self.old.held question.entry }
         ensures state { LeavesHeld result self.old.held question.entry self.new.held }
     {
@@ -115,7 +119,7 @@ impl Handle {
 
     // Holds these records and a context over them from now on, and gives back what it held before. Where the records
     // have no context, it holds what it held.
-    pub(crate) fn open(&mut self, records: Box<ContextPdbData<'static>>) -> Result<(), Refusal>
+    pub(crate) fn open(&mut self, records: Box<ContextPdbData<'static>>) -> Result<(), CallError>
         ensures { LeavesOpened result (context_over records.entry.value) self.old.held self.new.held }
     {
         let next = Handle::over(Loose::of(records))?;
@@ -128,13 +132,13 @@ impl Handle {
         &mut self,
         alloc: Global,
         question: Question<'_>,
-    ) -> Result<FoundFrames, Refusal>
+    ) -> Result<FoundFrames, CallError>
         ensures answer { AnswersHandle result self.old.held question.entry }
         ensures state { LeavesHandle result self.old.held question.entry self.new.held }
     {
         match self.ask(alloc, question) {
             Some(found) => found,
-            None => Err(Refusal::Closed),
+            None => Err(CallError::Closed),
         }
     }
 }

@@ -4,28 +4,28 @@
 //! declares the calls, sees that no pointer is null, and names the numbers that they answer.
 #![tactic(auto)]
 
+mod answer_buffers;
 mod buffers;
-mod calls;
+mod call_error;
 mod contexts;
 mod found_frames;
-mod frame_answers;
 mod frame_calls;
 mod frame_rows;
 mod handle;
 mod handle_calls;
 mod handle_laws;
+mod library_version;
 mod machine_calls;
-mod module_files;
+mod module_contents;
 mod openings;
 mod pdb_calls;
 mod pdb_openings;
 mod records_calls;
-mod refusals;
-mod texts;
-mod versions;
+mod records_file_calls;
+mod report_texts;
 
-pub use calls::{limberlime_frames_unchecked, limberlime_names_unchecked};
-pub use found_frames::FoundFunction;
+pub use call_error::CallError;
+pub use found_frames::AnswerSizes;
 pub use frame_calls::{
     limberlime_find_frames_unchecked, limberlime_find_function_unchecked,
     limberlime_next_start_unchecked,
@@ -37,8 +37,8 @@ pub use handle_calls::{
     limberlime_open_unchecked,
 };
 pub use handle_laws::a_handle_is_answered_as_its_bytes_are;
+pub use library_version::limberlime_version_unchecked;
 pub use machine_calls::limberlime_machine_unchecked;
 pub use pdb_calls::{limberlime_debug_id_unchecked, limberlime_open_pdb_unchecked};
 pub use records_calls::{limberlime_module_files_unchecked, limberlime_open_records_unchecked};
-pub use refusals::Refusal;
-pub use versions::limberlime_version_unchecked;
+pub use records_file_calls::{limberlime_frames_unchecked, limberlime_names_unchecked};

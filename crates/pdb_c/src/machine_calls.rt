@@ -1,17 +1,17 @@
 //! The call for C for the processor that the program of a PDB file is for.
 ghost use Rattle.pdb_c.specs.Machines.{machine_number, EndsWithNumber};
-ghost use Rattle.pdb_c.specs.Texts.{Agrees};
+ghost use Rattle.pdb_c.specs.ReportTexts.{Agrees};
 
-use crate::refusals::Refusal;
+use crate::call_error::CallError;
 use pdb_container::read_identity;
 use std::alloc::Global;
 
 // The number of the processor that the program of a PDB file is for.
-fn machine_number(alloc: Global, pdb: &[u8]) -> Result<u16, Refusal>
+fn machine_number(alloc: Global, pdb: &[u8]) -> Result<u16, CallError>
     ensures { Agrees (λ number. number) result (machine_number pdb.now) }
 {
     let Some(identity) = read_identity(alloc, pdb)? else {
-        return Err(Refusal::NoDebugId);
+        return Err(CallError::NoDebugId);
     };
     Ok(identity.machine.map_or(0, |machine| machine.0))
 }

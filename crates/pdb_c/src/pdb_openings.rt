@@ -1,11 +1,11 @@
 //! PDB files that are read once, for many questions, and which build one is of.
 ghost use Rattle.std.specs.Prelude.{◌≡◌, Ok, IfOk};
-ghost use Rattle.pdb_container.specs.Records.{records_of};
+ghost use Rattle.pdb_container.specs.PdbFile.{records_of};
 ghost use Rattle.pdb_c.specs.Openings.{repaired_file, LeavesOver};
 
+use crate::call_error::CallError;
 use crate::handle::Handle;
 use crate::openings::accepted_records;
-use crate::refusals::Refusal;
 use pdb_addr2line::pdb::PDB;
 use pdb_container::{PdbFile, read_identity, read_pdb_file};
 use pdb_identity::DebugId;
@@ -13,7 +13,7 @@ use pdb_repairs::repair_records;
 use std::alloc::{AllocError, Global};
 
 // The records of a PDB file over which something can be answered, as they stand in the file.
-fn records_of_file(alloc: Global, bytes: &[u8]) -> Result<PDB, Refusal>
+fn records_of_file(alloc: Global, bytes: &[u8]) -> Result<PDB, CallError>
     ensures { IfOk result (λ records. records_of bytes.now ≡ Ok records) }
 {
     let PdbFile {
@@ -23,12 +23,12 @@ fn records_of_file(alloc: Global, bytes: &[u8]) -> Result<PDB, Refusal>
     } = read_pdb_file(alloc, bytes)?;
     match refusal {
         None => Ok(records),
-        Some(why) => Err(Refusal::from(why)),
+        Some(why) => Err(CallError::from(why)),
     }
 }
 
 // The records of a PDB file, of which what is broken is taken out.
-fn repaired_records(alloc: Global, bytes: &[u8]) -> Result<PDB, Refusal>
+fn repaired_records(alloc: Global, bytes: &[u8]) -> Result<PDB, CallError>
     ensures { IfOk result (λ records. repaired_file bytes.now ≡ Ok records) }
 {
     let mut records = records_of_file(alloc, bytes)?;
@@ -37,7 +37,7 @@ fn repaired_records(alloc: Global, bytes: &[u8]) -> Result<PDB, Refusal>
 }
 
 // Puts the records of a PDB file into a closed handle.
-pub(crate) fn open_pdb(alloc: Global, bytes: &[u8], handle: &mut Handle) -> Result<(), Refusal>
+pub(crate) fn open_pdb(alloc: Global, bytes: &[u8], handle: &mut Handle) -> Result<(), CallError>
     ensures { LeavesOver bytes.now result handle.old.held handle.new.held }
 {
     let records = repaired_records(alloc, bytes)?;
@@ -52,9 +52,9 @@ fn compact_text(alloc: Global, id: DebugId) -> Result<String, AllocError> {
 }
 
 // The text of the debug id of a PDB file, as bytes.
-pub(crate) fn debug_id_text(alloc: Global, bytes: &[u8]) -> Result<Vec<u8>, Refusal> {
+pub(crate) fn debug_id_text(alloc: Global, bytes: &[u8]) -> Result<Vec<u8>, CallError> {
     let Some(identity) = read_identity(alloc, bytes)? else {
-        return Err(Refusal::NoDebugId);
+        return Err(CallError::NoDebugId);
     };
     let text = compact_text(alloc, identity.debug_id)?;
     Ok(Vec::from_slice(alloc, text.as_bytes())?)

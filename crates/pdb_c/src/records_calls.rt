@@ -1,17 +1,17 @@
 //! The calls for C over a records file with its module files.
 ghost use Rattle.pdb_c.specs.Buffers.{Ends};
-ghost use Rattle.pdb_c.specs.ModuleFiles.{cut_after, module_files_text};
+ghost use Rattle.pdb_c.specs.ModuleContents.{cut_after, module_files_text};
 ghost use Rattle.pdb_c.specs.Openings.{context_to_open, LeavesOpened, Opens};
 
 use crate::buffers::answer;
+use crate::call_error::CallError;
 use crate::handle::Handle;
-use crate::module_files::{cut_after, module_files_text};
+use crate::module_contents::{cut_after, module_files_text};
 use crate::openings::open_records;
-use crate::refusals::Refusal;
 use std::alloc::Global;
 
 /// Writes the names of the module files that a records file wants to the caller's buffer, in the order in which
-/// [`limberlime_open_records_unchecked`] takes their contents, each with a 0 behind it, and answers the text's length
+/// [`limberlime_open_records_unchecked`] takes their contents, each with a 0 after it, and answers the text's length
 /// in bytes; `wanted` is that length too. Where there is no such text, or it is longer than the buffer, nothing is
 /// written, and the answer is the refusal's number.
 #[unsafe(no_mangle)]
@@ -27,7 +27,7 @@ pub extern "C" fn limberlime_module_files_unchecked(
     answer(found, buffer, wanted)
 }
 
-// Puts the records in the bytes of a records file and of its module files, which stand one behind the other, into a
+// Puts the records in the bytes of a records file and of its module files, which stand one after the other, into a
 // closed handle.
 fn open_pieces(
     alloc: Global,
@@ -35,7 +35,7 @@ fn open_pieces(
     contents: &[u8],
     lengths: &[usize],
     handle: &mut Handle,
-) -> Result<(), Refusal>
+) -> Result<(), CallError>
     ensures { LeavesOpened result (context_to_open records.now (cut_after lengths.now contents.now))
         handle.old.held handle.new.held }
 {
@@ -44,7 +44,7 @@ fn open_pieces(
 }
 
 /// Reads the records in the bytes of a records file and of its module files into a handle, and answers 0. The contents
-/// of the module files stand one behind the other, in the order of [`limberlime_module_files_unchecked`], and `lengths`
+/// of the module files stand one after the other, in the order of [`limberlime_module_files_unchecked`], and `lengths`
 /// has how many bytes each has. All else is as of `limberlime_open_unchecked`.
 #[unsafe(no_mangle)]
 pub extern "C" fn limberlime_open_records_unchecked(

@@ -73,7 +73,7 @@ fn text_of_function(alloc: Global, function: &Function) -> Result<String, AllocE
     joined(alloc, range.as_str(), " ", text_of_name(&function.name))
 }
 
-/// Functions as text, one behind the other.
+/// Functions as text, one after the other.
 fn text_of_functions(alloc: Global, functions: &[Function]) -> Result<String, AllocError> {
     let mut text = String::new(alloc);
     for function in functions {

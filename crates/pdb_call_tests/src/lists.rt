@@ -173,7 +173,7 @@ fn outcome_over(
 }
 
 /// Has a context answer calls, and answers how often there was no memory for one. That one is made again, and
-/// the ones behind it are made then.
+/// the ones after it are made then.
 fn refusals_of<'d>(
     context: &mut Context<'d, ContextPdbData<'_>>,
     calls: &[Call<'_>],

@@ -2,7 +2,7 @@
 //!
 //! Each file of questions has a line `file NAME` for each records file, and below it the questions for that one.
 //!
-//! `calls.txt` has lists of calls: a line `CALL | ANSWER` for each call, and an empty line behind each list. A
+//! `calls.txt` has lists of calls: a line `CALL | ANSWER` for each call, and an empty line after each list. A
 //! list goes to a context of its own, in one run. The calls are `function ADDRESS`, `frames ADDRESS`, `functions`,
 //! `count`, `size MODULE INDEX`, `signature MODULE INDEX NAME` and `id MODULE INDEX`, with addresses and indices
 //! in hexadecimal. In an answer `!` stands before the text of an error.
@@ -24,7 +24,7 @@
 //! parts, of parts whose provider counts, and over lent records. They answer at once, one by one, and in clones.
 //!
 //! `lent.txt` has a line `NAME | OUTCOME` for each records file whose records are lent: `taken`, or the text of an
-//! error behind `!`. Either way they stay as they were.
+//! error after `!`. Either way they stay as they were.
 //!
 //! `parts.txt` has a line `NAME | PART` for each part of a context that no list of calls shows, over a records file.
 #![tactic(auto)]

@@ -3,7 +3,7 @@
 use std::alloc::{AllocError, Global};
 use std::io;
 
-/// What stands before a text in another one, and what stands behind it.
+/// What stands before a text in another one, and what stands after it.
 pub(crate) fn around<'t>(text: &'t str, inner: &str) -> Option<(&'t str, &'t str)> {
     text.split_once(inner)
 }
@@ -13,7 +13,7 @@ pub(crate) fn hexadecimal(word: &str) -> Option<u32> {
     u32::from_str_radix(word, 16).ok()
 }
 
-/// A module index, and the text behind it.
+/// A module index, and the text after it.
 pub(crate) fn module_index(text: &str) -> Option<(usize, &str)> {
     let (word, rest) = around(text, " ")?;
     Some((word.parse::<usize>().ok()?, rest))
@@ -25,7 +25,7 @@ pub(crate) fn print_line<R: Print>(rt: &R, line: &str, said: &str) -> io::Result
     rt.println(said)
 }
 
-/// Three texts, one behind the other.
+/// Three texts, one after the other.
 pub(crate) fn joined(
     alloc: Global,
     first: &str,

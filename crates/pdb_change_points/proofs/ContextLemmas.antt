@@ -11,9 +11,9 @@ use Rattle.pdb_errors.specs.declared.error.Error.{Error}
 use Rattle.pdb_errors.specs.Outcomes.{and_then, streamed, unless}
 use Rattle.pdb_types.specs.declared.flags.TypeFormatterFlags.{TypeFormatterFlags}
 use Rattle.pdb_types.specs.TypeInputs.{TypeInputs}
-use Rattle.pdb_functions.specs.Contributions.{merged_contributions}
+use Rattle.pdb_functions.specs.MergedContributions.{merged_contributions}
 use Rattle.pdb_functions.specs.GlobalFunctions.{global_functions}
-use Rattle.pdb_functions.specs.declared.contributions.ModuleSectionContribution.{ModuleSectionContribution}
+use Rattle.pdb_functions.specs.declared.merged_contributions.ModuleSectionContribution.{ModuleSectionContribution}
 use Rattle.pdb_addr2line.specs.ContextData.{context_of, context_over, formatter_of, sections_read}
 use Rattle.pdb_addr2line.specs.ContextInputs.{ContextInputs, searched_contributions}
 use Rattle.pdb_change_points.specs.ChangePoints.{change_points, program_points}

@@ -6,18 +6,18 @@ use Rattle.std.specs.List.{AllByRecursion}
 use Rattle.std.proofs.lemmas.Bool.{and_parts, eqb-true}
 use Rattle.pdb_records.specs.declared.addresses.PdbInternalSectionOffset.{PdbInternalSectionOffset}
 use Rattle.pdb_records.specs.declared.debug_information.Module.{Module}
-use Rattle.pdb_errors.specs.Provided.{ProviderInfos}
+use Rattle.pdb_records.specs.Provided.{ProviderInfos}
 use Rattle.pdb_tables.specs.Pick.{pick}
-use Rattle.pdb_functions.specs.declared.contributions.ModuleSectionContribution.{ModuleSectionContribution}
-use Rattle.pdb_functions.specs.FoundFunctions.{FoundFunction, found_procedure, found_global, found_or_global, global_in}
-use Rattle.pdb_functions.specs.FoundFunctions.{function_over, function_in_contribution, procedures_of_module}
+use Rattle.pdb_functions.specs.declared.merged_contributions.ModuleSectionContribution.{ModuleSectionContribution}
+use Rattle.pdb_functions.specs.FunctionMatches.{FunctionMatch, found_procedure, found_global, found_or_global, global_in}
+use Rattle.pdb_functions.specs.FunctionMatches.{function_over, function_in_contribution, procedures_of_module}
 use Rattle.pdb_functions.specs.GlobalFunctions.{GlobalFunction}
 use Rattle.pdb_functions.specs.Procedures.{ModuleProcedure}
 use Rattle.pdb_functions.specs.Spans.{contribution_covers, procedure_covers, global_function_covers}
 use Rattle.pdb_change_points.proofs.ListLemmas.{all_weaker, picked_passes}
 
 -- a function starts in a section, and if it is a procedure, something holds of its module index and of it
-abbrev pub StartsIn : ℕ → (ℕ → ModuleProcedure → Type 0) → FoundFunction → Type 0
+abbrev pub StartsIn : ℕ → (ℕ → ModuleProcedure → Type 0) → FunctionMatch → Type 0
 StartsIn n P (found_procedure m p) = (p.offset.section ≡ n) × P m p
 StartsIn n P (found_global m f) = f.start.section ≡ n
 

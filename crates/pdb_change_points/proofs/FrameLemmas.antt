@@ -6,23 +6,23 @@ use Rattle.pdb_records.specs.Addresses.{rva}
 use Rattle.pdb_records.specs.declared.addresses.AddressRange.{AddressRange}
 use Rattle.pdb_records.specs.declared.modules.ModuleInfo.{ModuleInfo}
 use Rattle.pdb_errors.specs.Outcomes.{and_then}
-use Rattle.pdb_errors.specs.Provided.{ProviderInfos}
+use Rattle.pdb_records.specs.Provided.{ProviderInfos}
 use Rattle.pdb_errors.specs.declared.error.Error.{Error}
 use Rattle.pdb_types.specs.TypeInputs.{TypeInputs}
-use Rattle.pdb_functions.specs.FoundFunctions.{FoundFunction, function_module, function_start}
+use Rattle.pdb_functions.specs.FunctionMatches.{FunctionMatch, function_module, function_start}
 use Rattle.pdb_functions.specs.GlobalFunctions.{GlobalFunction}
 use Rattle.pdb_frames.specs.Frame.{FramesInfo}
-use Rattle.pdb_frames.specs.Origins.{Origin, origin}
-use Rattle.pdb_function_info.specs.Frames.{Strings, function_size, info_of_frames, origin_frames}
+use Rattle.pdb_frames.specs.CodeLocations.{CodeLocation, code_location}
+use Rattle.pdb_function_info.specs.Frames.{Strings, function_size, info_of_frames, code_location_frames}
 use Rattle.pdb_function_info.specs.Function.{sum_in_32_bits}
 use Rattle.pdb_function_info.specs.NameTexts.{function_name, id_name}
 
 -- the frames info of a function whose code comes from there
 abbrev info_from : {P : Type 0} → (P → ProviderInfos) → TypeInputs P → Strings → List AddressRange
-    → List GlobalFunction → FoundFunction → Result Origin Error → Result (Option FramesInfo) Error
+    → List GlobalFunction → FunctionMatch → Result CodeLocation Error → Result (Option FramesInfo) Error
 info_from info type_inputs strings sections globals found from =
     option_map_or (λ start.
-    and_then (and_then from (λ o. Ok (origin_frames strings
+    and_then (and_then from (λ o. Ok (code_location_frames strings
     (id_name info type_inputs (function_module found)) (function_name info type_inputs globals found) o))) (λ frames.
     Ok (Some (record {
       start_rva = start.0;
@@ -33,7 +33,7 @@ info_from info type_inputs strings sections globals found from =
 -- the frames info is the same at both offsets
 pub info_same : {P : Type 0} (info : P → ProviderInfos) (type_inputs : TypeInputs P) (strings : Strings)
     (sections : List AddressRange) (globals : List GlobalFunction) (records : Option ModuleInfo)
-    (found : FoundFunction) (a b : ℕ) → IfSome records (λ i. origin i found a ≡ origin i found b)
+    (found : FunctionMatch) (a b : ℕ) → IfSome records (λ i. code_location i found a ≡ code_location i found b)
     → info_of_frames info type_inputs strings sections globals records found a
     ≡ info_of_frames info type_inputs strings sections globals records found b
 info_same info type_inputs strings sections globals None found a b same = refl

@@ -10,16 +10,16 @@ use Rattle.pdb_records.specs.declared.addresses.AddressRange.{AddressRange}
 use Rattle.pdb_records.specs.declared.addresses.PdbInternalSectionOffset.{PdbInternalSectionOffset}
 use Rattle.pdb_records.specs.declared.debug_information.Module.{Module}
 use Rattle.pdb_records.specs.declared.modules.ModuleInfo.{ModuleInfo}
-use Rattle.pdb_errors.specs.Provided.{ProviderInfos}
+use Rattle.pdb_records.specs.Provided.{ProviderInfos}
 use Rattle.pdb_errors.specs.declared.error.Error.{Error}
-use Rattle.pdb_functions.specs.FoundFunctions.{FoundFunction, found_procedure, found_global, function_over}
-use Rattle.pdb_functions.specs.FoundFunctions.{function_module}
-use Rattle.pdb_functions.specs.ModuleInfos.{readable_info}
+use Rattle.pdb_functions.specs.FunctionMatches.{FunctionMatch, found_procedure, found_global, function_over}
+use Rattle.pdb_functions.specs.FunctionMatches.{function_module}
+use Rattle.pdb_functions.specs.ModuleInfoCache.{readable_info}
 use Rattle.pdb_functions.specs.Procedures.{ModuleProcedure}
 use Rattle.pdb_functions.specs.Spans.{contribution_covers}
 use Rattle.pdb_frames.specs.ExtendedInfo.{ExtendedInfo, extended_info}
 use Rattle.pdb_frames.specs.Frame.{FramesInfo}
-use Rattle.pdb_frames.specs.Origins.{origin}
+use Rattle.pdb_frames.specs.CodeLocations.{code_location}
 use Rattle.pdb_addr2line.specs.ContextInputs.{ContextInputs, contributions_of, global_functions_of}
 use Rattle.pdb_addr2line.specs.Lookups.{contribution_at, found_at, frames_at, frames_of, records_of}
 use Rattle.pdb_known.specs.Known.{infos_of}
@@ -52,10 +52,10 @@ module _ (sections : List AddressRange) (n : ℕ) (range : AddressRange)
     (is : numbered_section n sections ≡ Some range) (x y : ℕ) (from : range.virtual_address ≤ x) (up : x ≤ y)
     (fits : y < 2 ^ 32) where
   -- where the code of a function comes from is the same at both, by the records of its module
-  code_same : (readable : Option ModuleInfo) (found : FoundFunction) → AreLinesOutside x y sections readable
+  code_same : (readable : Option ModuleInfo) (found : FunctionMatch) → AreLinesOutside x y sections readable
       → StartsIn n (λ m p. IsReadOutside x y sections readable p) found
-      → IfSome readable (λ info. origin info found (x - range.virtual_address)
-      ≡ origin info found (y - range.virtual_address))
+      → IfSome readable (λ info. code_location info found (x - range.virtual_address)
+      ≡ code_location info found (y - range.virtual_address))
   code_same None found lines starts = tt
   code_same (Some info) (found_global m f) lines starts =
       origin_same sections n range is x y from up fits info (found_global m f) starts
@@ -143,7 +143,7 @@ module _ (s : ContextInputs Records) (x y : ℕ) (up : x ≤ y) (fits : y < 2 ^ 
   module_outside index named = answer_outside x y s.address_map s.provider.module_infos modules_outside index
 
   -- what lies over a section offset
-  abbrev over : PdbInternalSectionOffset → Option FoundFunction
+  abbrev over : PdbInternalSectionOffset → Option FunctionMatch
   over section_offset =
       function_over infos modules (contributions_of s) (global_functions_of s) section_offset
 
@@ -179,7 +179,7 @@ module _ (s : ContextInputs Records) (x y : ℕ) (up : x ≤ y) (fits : y < 2 ^ 
 
   -- of a function that lies over both the frames are the same, where they lie in one section
   frames_both : (n : ℕ) (range : AddressRange) → numbered_section n s.address_map ≡ Some range
-      → range.virtual_address ≤ x → (found : FoundFunction)
+      → range.virtual_address ≤ x → (found : FunctionMatch)
       → over (record { section = n; offset = x - range.virtual_address }) ≡ Some found
       → frames_of infos_of s (x - range.virtual_address) found ≡ frames_of infos_of s (y - range.virtual_address) found
   frames_both n range is from found found_is =
@@ -187,7 +187,7 @@ module _ (s : ContextInputs Records) (x y : ℕ) (up : x ≤ y) (fits : y < 2 ^ 
       (records_of infos_of s found) found (x - range.virtual_address) (y - range.virtual_address)
       (code_same s.address_map n range is x y from up fits (readable_info infos modules (function_module found)) found
       (module_lines_outside x y s.address_map infos modules module_outside (function_module found))
-      (by_kind found (subst (λ (o : Option FoundFunction). IfSome o (StartsIn n IsRead)) found_is
+      (by_kind found (subst (λ (o : Option FunctionMatch). IfSome o (StartsIn n IsRead)) found_is
       (over_starts_in infos modules IsRead
       (module_ranges_outside x y s.address_map infos modules module_outside) (global_functions_of s)
       (record { section = n; offset = x - range.virtual_address }) (contributions_of s)))))
@@ -195,7 +195,7 @@ module _ (s : ContextInputs Records) (x y : ℕ) (up : x ≤ y) (fits : y < 2 ^ 
       IsRead : ℕ → ModuleProcedure → Type 0
       IsRead m p = IsReadOutside x y s.address_map (readable_info infos modules m) p
 
-      by_kind : (f : FoundFunction) → StartsIn n IsRead f
+      by_kind : (f : FunctionMatch) → StartsIn n IsRead f
           → StartsIn n (λ m p. IsReadOutside x y s.address_map (readable_info infos modules (function_module f)) p) f
       by_kind (found_global m f) starts = starts
       by_kind (found_procedure m p) starts = starts

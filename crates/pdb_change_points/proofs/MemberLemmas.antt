@@ -2,7 +2,7 @@
 use Rattle.std.proofs.Common.{◌≡◌, ℕ, cond, List, ◌++◌, refl, inl, inr, append_assoc}
 use Rattle.std.specs.Prelude.{Contains, Result, Ok, Err, is_ok, OnOk}
 use Rattle.std.proofs.lemmas.List.Elements.{Contains-append_left, Contains-append_right, Contains-append_cases}
-use Rattle.pdb_change_points.specs.Members.{HaveSameMembers}
+use Rattle.pdb_change_points.specs.UniqueNumbers.{HaveSameMembers}
 
 -- a list has its own members
 pub same_members : (xs ys : List ℕ) → xs ≡ ys → HaveSameMembers xs ys
@@ -15,7 +15,7 @@ unfolding HaveSameMembers
 members_then xs ys zs first second number =
     ((λ h. (second number).0 ((first number).0 h)), (λ h. (first number).1 ((second number).1 h)))
 
--- members of a list in front of others, or behind them
+-- members of a list in front of others, or after them
 part_in : (us vs xs ys : List ℕ) → ((number : ℕ) → Contains us number → Contains vs number)
     → ((number : ℕ) → Contains xs number → Contains ys number)
     → (number : ℕ) → Contains (us ++ xs) number → Contains (vs ++ ys) number
@@ -24,7 +24,7 @@ part_in us vs xs ys front behind number h = elim (Contains-append_cases us xs nu
   | inr other ↦ Contains-append_right vs ys number (behind number other)
 ]
 
--- lists with the same members, one behind the other
+-- lists with the same members, one after the other
 pub members_append : (us vs xs ys : List ℕ) → HaveSameMembers us vs → HaveSameMembers xs ys
     → HaveSameMembers (us ++ xs) (vs ++ ys)
 unfolding HaveSameMembers

@@ -9,10 +9,10 @@ use Rattle.pdb_records.specs.declared.debug_information.Module.{Module}
 use Rattle.pdb_records.specs.declared.error.StreamError.{StreamError}
 use Rattle.pdb_records.specs.declared.ids.IdIndex.{IdIndex}
 use Rattle.pdb_records.specs.declared.modules.ModuleInfo.{ModuleInfo}
-use Rattle.pdb_errors.specs.Provided.{ProviderInfos}
+use Rattle.pdb_records.specs.Provided.{ProviderInfos}
 use Rattle.pdb_errors.specs.declared.error.Error.{Error}
-use Rattle.pdb_functions.specs.FoundFunctions.{procedures_of_module}
-use Rattle.pdb_functions.specs.ModuleInfos.{readable_info}
+use Rattle.pdb_functions.specs.FunctionMatches.{procedures_of_module}
+use Rattle.pdb_functions.specs.ModuleInfoCache.{readable_info}
 use Rattle.pdb_functions.specs.Procedures.{ModuleProcedure, info_procedures, provided_procedures}
 use Rattle.pdb_frames.specs.ExtendedInfo.{ExtendedInfo, extended_info}
 use Rattle.pdb_change_points.specs.ModulePoints.{ranges_or_none, inlined_points, code_points, answer_points}

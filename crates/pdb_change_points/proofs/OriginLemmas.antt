@@ -19,20 +19,20 @@ use Rattle.pdb_records.specs.declared.modules.ModuleInfo.{ModuleInfo}
 use Rattle.pdb_errors.specs.Outcomes.{and_then, unless}
 use Rattle.pdb_errors.specs.declared.error.Error.{Error}
 use Rattle.pdb_errors.specs.declared.error.Error.TheVariants.{PdbError}
-use Rattle.pdb_functions.specs.FoundFunctions.{FoundFunction, found_procedure, found_global, function_start}
+use Rattle.pdb_functions.specs.FunctionMatches.{FunctionMatch, found_procedure, found_global, function_start}
 use Rattle.pdb_inline.specs.InlineRanges.{procedure_inline_ranges}
 use Rattle.pdb_inline.specs.InlineStacks.{inline_stack}
 use Rattle.pdb_inline.specs.declared.inline_ranges.InlineRange.{InlineRange}
 use Rattle.pdb_frames.specs.ExtendedInfo.{ExtendedInfo, extended_info}
 use Rattle.pdb_frames.specs.Lines.{row_over, function_row}
-use Rattle.pdb_frames.specs.Origins.{Origin, origin, function_ranges}
+use Rattle.pdb_frames.specs.CodeLocations.{CodeLocation, code_location, function_ranges}
 use Rattle.pdb_change_points.specs.ModulePoints.{ranges_or_none}
 use Rattle.pdb_change_points.specs.Points.{point_at, row_points, entry_points, range_points, IsOutside}
 use Rattle.pdb_change_points.proofs.ListLemmas.{all_parts, pick_same, find_passes, stack_same, IsOverBoth}
 use Rattle.pdb_change_points.proofs.SectionLemmas.{le_same, lt_same}
 
 -- the inline ranges of a function, if it is a procedure, start and end outside of two addresses
-abbrev pub AreRangesOutside : ℕ → ℕ → List AddressRange → ℕ → List IdIndex → ModuleInfo → FoundFunction → Type 0
+abbrev pub AreRangesOutside : ℕ → ℕ → List AddressRange → ℕ → List IdIndex → ModuleInfo → FunctionMatch → Type 0
 AreRangesOutside x y sections n inlinees info (found_procedure m p) =
     AllByRecursion (IsOutside x y) (range_points sections n (ranges_or_none inlinees info p))
 AreRangesOutside x y sections n inlinees info (found_global m f) = ⊤
@@ -109,15 +109,15 @@ module _ (sections : List AddressRange) (n : ℕ) (range : AddressRange)
       by_entry (Some entry) found_is outside = rw found_is (by_rows entry.lines.items outside entry.lines.fault)
 
   -- the origin of code with this row and these inlined bodies
-  made : Lines → Option LineInfo → List InlineRange → Result Origin Error
+  made : Lines → Option LineInfo → List InlineRange → Result CodeLocation Error
   made program row stack = Ok (record { line_program = program; row = row; stack = stack })
 
   -- where the code at both comes from is the same
-  pub origin_same : (info : ModuleInfo) (found : FoundFunction) → (function_start found).section ≡ n
+  pub origin_same : (info : ModuleInfo) (found : FunctionMatch) → (function_start found).section ≡ n
       → IfOk (extended_info info) (λ known. AllByRecursion (IsOutside x y)
       (entry_points sections known.line_program.entries)
       × AreRangesOutside x y sections n known.inlinees info found)
-      → origin info found (x - range.virtual_address) ≡ origin info found (y - range.virtual_address)
+      → code_location info found (x - range.virtual_address) ≡ code_location info found (y - range.virtual_address)
   unfolding made
   origin_same info found here outside = by_known (extended_info info) outside where
     by_ranges : (program : Lines) (row : Option LineInfo) (ranges : Result (List InlineRange) Error)
@@ -129,7 +129,7 @@ module _ (sections : List AddressRange) (n : ℕ) (range : AddressRange)
         ap (made program row) (stack_same r (x - range.virtual_address) (y - range.virtual_address)
         (ranges_same r all))
 
-    by_kind : (known : ExtendedInfo) (row : Option LineInfo) (f : FoundFunction)
+    by_kind : (known : ExtendedInfo) (row : Option LineInfo) (f : FunctionMatch)
         → AreRangesOutside x y sections n known.inlinees info f
         → and_then (function_ranges known.inlinees info f)
         (λ r. made known.line_program row (inline_stack r (x - range.virtual_address)))

@@ -13,7 +13,7 @@ use Rattle.pdb_records.specs.Records.{Records}
 use Rattle.pdb_function_info.specs.NameTexts.{symbol_name}
 use Rattle.pdb_addr2line.specs.ContextInputs.{ContextInputs}
 use Rattle.pdb_change_points.specs.ChangePoints.{change_points, AreChangePoints, LiesInPiece, NoneBetween}
-use Rattle.pdb_change_points.specs.Members.{HaveSameMembers}
+use Rattle.pdb_change_points.specs.UniqueNumbers.{HaveSameMembers}
 use Rattle.pdb_change_points.proofs.LawLemmas.{contribution_same, found_same, frames_same}
 
 -- of numbers that ascend, one is at most a later one

@@ -7,12 +7,12 @@ use Rattle.pdb_records.specs.declared.addresses.AddressRange.{AddressRange}
 use Rattle.pdb_records.specs.declared.error.StreamError.{StreamError}
 use Rattle.pdb_records.specs.declared.modules.ModuleInfo.{ModuleInfo}
 use Rattle.pdb_functions.specs.GlobalFunctions.{GlobalFunction}
-use Rattle.pdb_functions.specs.declared.contributions.ModuleSectionContribution.{ModuleSectionContribution}
+use Rattle.pdb_functions.specs.declared.merged_contributions.ModuleSectionContribution.{ModuleSectionContribution}
 use Rattle.pdb_addr2line.specs.ContextInputs.{ContextInputs, contributions_of, global_functions_of}
 use Rattle.pdb_addr2line.specs.Lookups.{contribution_at, found_at, frames_at}
 use Rattle.pdb_addr2line.specs.NamedFunctions.{symbol_name_at}
 use Rattle.pdb_known.specs.Known.{infos_of}
-use Rattle.pdb_change_points.specs.Members.{HaveSameMembers}
+use Rattle.pdb_change_points.specs.UniqueNumbers.{HaveSameMembers}
 use Rattle.pdb_change_points.specs.ModulePoints.{answer_points}
 use Rattle.pdb_change_points.specs.Points.{map_points, contribution_points, global_points, IsOutside}
 

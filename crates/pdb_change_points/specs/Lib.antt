@@ -1,4 +1,4 @@
 pub mod Points
 pub mod ModulePoints
-pub mod Members
+pub mod UniqueNumbers
 pub mod ChangePoints

@@ -17,9 +17,9 @@
 #![tactic(auto)]
 
 pub mod change_laws;
-mod members;
 mod module_points;
 mod points;
 mod program_points;
+mod unique_numbers;
 
 pub use program_points::change_points;

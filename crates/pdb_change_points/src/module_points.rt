@@ -5,12 +5,12 @@ ghost use Rattle.std.specs.List.{flat_map};
 ghost use Rattle.std.specs.Option.{option_copied};
 ghost use Rattle.pdb_functions.specs.Procedures.{module_procedure, info_procedures};
 ghost use Rattle.pdb_frames.specs.ExtendedInfo.{extended_info};
-ghost use Rattle.pdb_change_points.specs.Members.{HaveSameMembers};
+ghost use Rattle.pdb_change_points.specs.UniqueNumbers.{HaveSameMembers};
 ghost use Rattle.pdb_change_points.specs.ModulePoints.{ranges_or_none, inlined_points, code_points, module_points};
 ghost use Rattle.pdb_change_points.specs.ModulePoints.{answer_points};
 
-use crate::members::sort_unique;
 use crate::points::{add_entry_points, add_procedure_points, add_range_points};
+use crate::unique_numbers::sort_unique;
 use pdb_errors::{Error, Result};
 use pdb_frames::{compute_extended_module_info, compute_procedure_inline_ranges};
 use pdb_functions::{BasicModuleInfo, ProcedureSymbolFunction};

@@ -7,17 +7,17 @@ ghost use Rattle.pdb_records.specs.Records.{Records};
 ghost use Rattle.pdb_errors.specs.Outcomes.{Gives, streamed};
 ghost use Rattle.pdb_errors.specs.declared.error.Error.TheVariants.{OutOfMemory};
 ghost use Rattle.pdb_types.specs.declared.flags.TypeFormatterFlags.{TypeFormatterFlags};
-ghost use Rattle.pdb_functions.specs.Contributions.{merged_contributions};
+ghost use Rattle.pdb_functions.specs.MergedContributions.{merged_contributions};
 ghost use Rattle.pdb_functions.specs.GlobalFunctions.{global_function, global_functions};
 ghost use Rattle.pdb_addr2line.specs.ContextData.{context_of, sections_read};
 ghost use Rattle.pdb_addr2line.specs.ContextInputs.{ContextInputs};
 ghost use Rattle.pdb_change_points.specs.ChangePoints.{AreChangePoints, program_points};
-ghost use Rattle.pdb_change_points.specs.Members.{HaveSameMembers};
+ghost use Rattle.pdb_change_points.specs.UniqueNumbers.{HaveSameMembers};
 ghost use Rattle.pdb_change_points.specs.Points.{map_points, contribution_points, global_points};
 
-use crate::members::sort_unique;
 use crate::module_points::add_modules_points;
 use crate::points::{add_contribution_points, add_global_points, add_map_points};
+use crate::unique_numbers::sort_unique;
 use pdb_errors::{Error, Result};
 use pdb_functions::{
     GlobalFunction, ModuleSectionContribution, compute_global_functions,

@@ -11,7 +11,7 @@ use Rattle.pdb_msf.specs.ItemLists.{all_items}
 abbrev small : ℕ → List ℕ
 small number = number ∷ 0 ∷ 0 ∷ 0 ∷ []
 
--- the entry of a file whose name has the key 9, with a checksum of three bytes, and bytes that fill up behind it
+-- the entry of a file whose name has the key 9, with a checksum of three bytes, and bytes that fill up after it
 abbrev first_file : List ℕ
 first_file = small 9 ++ 3 ∷ 1 ∷ 7 ∷ 7 ∷ 7 ∷ 0 ∷ 0 ∷ 0 ∷ []
 

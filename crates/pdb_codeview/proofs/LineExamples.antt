@@ -4,9 +4,9 @@ use Rattle.std.specs.Prelude.{None}
 use Rattle.pdb_records.specs.declared.addresses.PdbInternalSectionOffset.{PdbInternalSectionOffset}
 use Rattle.pdb_records.specs.declared.lines.LineInfo.{LineInfo}
 use Rattle.pdb_records.specs.declared.lines.SymbolLines.{SymbolLines}
-use Rattle.pdb_codeview.specs.declared.lines.LineSubsection.{LineSubsection}
+use Rattle.pdb_codeview.specs.declared.line_subsections.LineSubsection.{LineSubsection}
 use Rattle.pdb_codeview.specs.declared.procedure_spans.ProcedureSpan.{ProcedureSpan}
-use Rattle.pdb_codeview.specs.LineEntries.{program_entries}
+use Rattle.pdb_codeview.specs.LineProgram.{program_entries}
 use Rattle.pdb_codeview.specs.LineRows.{rows_with_bytes}
 
 -- an offset in the first section
@@ -45,7 +45,7 @@ assembler : program_entries (subsection 16 64 (at_line 20 5 ∷ at_line 40 6 ∷
     ∷ entry 48 (at_line 48 6 ∷ []) ∷ []
 assembler = refl
 
--- a procedure inside of another: behind its end the outer one goes on
+-- a procedure inside of another: after its end the outer one goes on
 nested : program_entries (subsection 16 64 (at_line 16 1 ∷ at_line 32 2 ∷ at_line 40 3 ∷ []) ∷ [])
     (procedure 24 48 ∷ procedure 32 8 ∷ [])
     ≡ entry 16 (at_line 16 1 ∷ at_line 32 2 ∷ at_line 40 3 ∷ [])

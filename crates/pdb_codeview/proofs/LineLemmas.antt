@@ -6,12 +6,12 @@ use Rattle.std.proofs.lemmas.List.{take_all}
 use Rattle.pdb_records.specs.declared.lines.FileIndex.{FileIndex}
 use Rattle.pdb_msf.specs.declared.faults.TheConstants.{CUT}
 use Rattle.pdb_msf.specs.ItemLists.{entry_list}
-use Rattle.pdb_msf.specs.Readings.{ending}
-use Rattle.pdb_codeview.specs.Lines.{line_row, line_rows}
+use Rattle.pdb_msf.specs.Readings.{with_fault}
+use Rattle.pdb_codeview.specs.LineSubsections.{line_row, line_rows}
 
 -- too few bytes are as many rows as they have
 pub rows_cut : (file : FileIndex) (start count : ℕ) (bytes : List ℕ) → length bytes < 8 * count
-    → line_rows file start count bytes ≡ ending (Some CUT) (entry_list (line_row file start) 8 bytes)
+    → line_rows file start count bytes ≡ with_fault (Some CUT) (entry_list (line_row file start) 8 bytes)
 unfolding line_rows
 rows_cut file start count bytes short =
     let all : take (8 * count) bytes ≡ bytes = take_all (8 * count) bytes (omega arith) in

@@ -1,15 +1,12 @@
--- Worked examples of symbols and of the rows of inline sites, by bytes written by hand.
+-- Worked examples of symbols, by bytes written by hand.
 use Rattle.std.proofs.Common.{◌≡◌, ℕ, List, [], ◌∷◌, ◌++◌, take, Some, None, refl}
 use Rattle.std.specs.Prelude.{codes}
 use Rattle.pdb_records.specs.declared.symbols.Symbol.{Symbol}
 use Rattle.pdb_records.specs.declared.symbols.SymbolData.TheVariants.{Other, Procedure, Public, SeparatedCode, Thunk}
-use Rattle.pdb_msf.specs.declared.faults.TheConstants.{APART, BAD_LENGTH, BAD_NUMBER, CUT}
-use Rattle.pdb_codeview.specs.declared.annotations.Annotation.TheVariants.{AdvanceAndLine, Length, Other}
-use Rattle.pdb_codeview.specs.declared.files.FileEntry.{FileEntry}
-use Rattle.pdb_codeview.specs.Annotations.{annotations}
-use Rattle.pdb_codeview.specs.InlineSites.{ModuleCode, rows_by}
+use Rattle.pdb_msf.specs.declared.faults.TheConstants.{BAD_LENGTH, CUT}
+use Rattle.pdb_codeview.specs.InlineSites.{ModuleCode}
 use Rattle.pdb_msf.specs.ItemLists.{all_items}
-use Rattle.pdb_codeview.specs.Symbols.{global_symbols, module_symbols}
+use Rattle.pdb_codeview.specs.SymbolContents.{global_symbols, module_symbols}
 
 -- a number below 256, as two bytes and as four
 abbrev short : ℕ → List ℕ
@@ -18,7 +15,7 @@ short number = number ∷ 0 ∷ []
 abbrev small : ℕ → List ℕ
 small number = number ∷ 0 ∷ 0 ∷ 0 ∷ []
 
--- reclen and rectyp S_PUB32, pubsymflags of a function, off 16, seg 1, and the name, with bytes that fill up behind it
+-- reclen and rectyp S_PUB32, pubsymflags of a function, off 16, seg 1, and the name, with bytes that fill up after it
 abbrev public_draw : List ℕ
 public_draw = 18 ∷ 0 ∷ 14 ∷ 17 ∷ [] ++ small 2 ++ small 16 ++ short 1 ++ codes "draw" ++ 0 ∷ 0 ∷ []
 
@@ -53,7 +50,7 @@ no_kind : global_symbols (public_draw ++ short 1 ++ short 0) ≡ record { items 
 unfolding all_items
 no_kind = refl
 
--- a name without a zero behind it
+-- a name without a zero after it
 no_name : global_symbols (16 ∷ 0 ∷ 14 ∷ 17 ∷ [] ++ small 2 ++ small 16 ++ short 1 ++ codes "draw")
     ≡ record { items = record { raw_kind = 0x110e; content = None } ∷ []; fault = None }
 unfolding all_items
@@ -75,8 +72,8 @@ procedure_f end =
 abbrev end_symbol : List ℕ
 end_symbol = 2 ∷ 0 ∷ 6 ∷ 0 ∷ []
 
--- behind four bytes of its stream the list has a procedure up to 48, a filler up to 56, and the end of the procedure,
--- which is the first symbol at 48 or behind it
+-- after four bytes of its stream the list has a procedure up to 48, a filler up to 56, and the end of the procedure,
+-- which is the first symbol at 48 or after it
 procedure_and_end : (code : ModuleCode) → module_symbols code 4 (procedure_f 48 ++ filler ++ end_symbol) ≡ record {
   items = record {
     raw_kind = 0x1110;
@@ -92,6 +89,64 @@ procedure_and_end : (code : ModuleCode) → module_symbols code 4 (procedure_f 4
 }
 unfolding all_items
 procedure_and_end code = refl
+
+-- the front of a procedure without a block: pParent, pEnd 48, pNext, len 26, DbgStart, DbgEnd, typind or token, off 64
+-- and seg 1
+abbrev procedure_front : List ℕ → List ℕ
+procedure_front typed =
+    small 0 ++ small 48 ++ small 0 ++ small 26 ++ small 4 ++ small 21 ++ typed ++ small 64 ++ short 1
+
+-- what the records have of the procedure "f" of this kind and type
+abbrev procedure_of_type : ℕ → ℕ → Symbol
+procedure_of_type raw_kind type = record {
+  raw_kind = raw_kind;
+  content = Some (Procedure (record {
+    offset = record { section = 1; offset = 64 };
+    len = 26;
+    name = codes "f";
+    end = record { 0 = 1 };
+    type_index = record { 0 = type };
+  }));
+}
+
+-- S_GMANPROC: the front with the token 0x06000001, flags, retReg, and the name, which says no type
+managed : (code : ModuleCode)
+    → module_symbols code 4 (41 ∷ 0 ∷ 42 ∷ 17 ∷ [] ++ procedure_front (1 ∷ 0 ∷ 0 ∷ 6 ∷ []) ++ 0 ∷ [] ++ short 0
+    ++ codes "f" ++ 0 ∷ [])
+    ≡ record { items = procedure_of_type 0x1110 0 ∷ []; fault = None }
+unfolding all_items
+managed code = refl
+
+-- S_LMANPROC
+local_managed : (code : ModuleCode)
+    → module_symbols code 4 (41 ∷ 0 ∷ 43 ∷ 17 ∷ [] ++ procedure_front (1 ∷ 0 ∷ 0 ∷ 6 ∷ []) ++ 0 ∷ [] ++ short 0
+    ++ codes "f" ++ 0 ∷ [])
+    ≡ record { items = procedure_of_type 0x110f 0 ∷ []; fault = None }
+unfolding all_items
+local_managed code = refl
+
+-- S_GPROCIA64: the front with typind 0x1001, retReg 8, flags, and the name
+of_itanium : (code : ModuleCode)
+    → module_symbols code 4 (41 ∷ 0 ∷ 25 ∷ 17 ∷ [] ++ procedure_front (1 ∷ 16 ∷ 0 ∷ 0 ∷ []) ++ short 8 ++ 0 ∷ []
+    ++ codes "f" ++ 0 ∷ [])
+    ≡ record { items = procedure_of_type 0x1110 0x1001 ∷ []; fault = None }
+unfolding all_items
+of_itanium code = refl
+
+-- S_LPROCIA64
+local_of_itanium : (code : ModuleCode)
+    → module_symbols code 4 (41 ∷ 0 ∷ 24 ∷ 17 ∷ [] ++ procedure_front (1 ∷ 16 ∷ 0 ∷ 0 ∷ []) ++ short 8 ++ 0 ∷ []
+    ++ codes "f" ++ 0 ∷ [])
+    ≡ record { items = procedure_of_type 0x110f 0x1001 ∷ []; fault = None }
+unfolding all_items
+local_of_itanium code = refl
+
+-- one that ends before its name
+nameless_of_itanium : (code : ModuleCode)
+    → module_symbols code 4 (38 ∷ 0 ∷ 24 ∷ 17 ∷ [] ++ procedure_front (1 ∷ 16 ∷ 0 ∷ 0 ∷ []) ++ short 8)
+    ≡ record { items = record { raw_kind = 0x110f; content = None } ∷ []; fault = None }
+unfolding all_items
+nameless_of_itanium code = refl
 
 -- S_THUNK32: pParent, pEnd, pNext, off 32, seg 1, len 5, ord, and the name
 a_thunk : (code : ModuleCode)
@@ -148,37 +203,3 @@ a_jump : (code : ModuleCode)
     }
 unfolding all_items
 a_jump code = refl
-
--- ChangeCodeOffsetAndLineOffset by 3 bytes and one line, and ChangeCodeLength of 5 bytes; zeros end the list
-abbrev two_annotations : List ℕ
-two_annotations = 11 ∷ 35 ∷ 4 ∷ 5 ∷ 0 ∷ 0 ∷ []
-
-its_annotations : annotations two_annotations ≡ record { items = AdvanceAndLine 3 2 ∷ Length 5 ∷ Other ∷ []; fault = None }
-unfolding all_items
-its_annotations = refl
-
--- ChangeCodeOffsetBase isn't followed, and no annotation has the kind 14
-another_chunk : annotations (2 ∷ 1 ∷ []) ≡ record { items = []; fault = Some APART }
-unfolding all_items
-another_chunk = refl
-
-no_annotation : annotations (14 ∷ 1 ∷ []) ≡ record { items = []; fault = Some BAD_NUMBER }
-unfolding all_items
-no_annotation = refl
-
--- the entry of a file that starts there
-abbrev file_at_start : ℕ → FileEntry
-file_at_start start = record { start = start; info = record { name = record { 0 = 7 } } }
-
--- in code that starts at 64, of a function that starts in the line 10 of the second file, whose entry starts at 24
-one_row : rows_by (Some (record { file = 24; line = 10 })) (file_at_start 0 ∷ file_at_start 24 ∷ []) 64 two_annotations
-    ≡ record {
-      items = record { offset = 67; length = Some 5; file_index = record { 0 = 1 }; line_start = 11 } ∷ [];
-      fault = None;
-    }
-unfolding all_items
-one_row = refl
-
--- an inlined function that the module doesn't list
-no_rows : rows_by None (file_at_start 0 ∷ []) 64 two_annotations ≡ record { items = []; fault = None }
-no_rows = refl

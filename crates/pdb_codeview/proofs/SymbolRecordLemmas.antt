@@ -15,7 +15,7 @@ use Rattle.pdb_msf.proofs.ItemListLemmas.{every_list}
 use Rattle.pdb_codeview.specs.SymbolRecords.{SymbolBytes, all_records, behind_reclen, first_record, is_filler}
 use Rattle.pdb_codeview.specs.SymbolRecords.{record_at, symbol_records}
 
--- the first position behind which a test holds, of a list that is counted from any number
+-- the first position after which a test holds, of a list that is counted from any number
 first_from : {X : Type 0} (p : X → Bool) (xs : List X) (i from : ℕ) → i ≤ length xs
     → ((k : ℕ) (d : X) → k < i → p (get_or xs k d) ≡ false)
     → ((k : ℕ) (d : X) → i ≤ k → k < length xs → p (get_or xs k d) ≡ true)

@@ -5,7 +5,7 @@ use Rattle.std.specs.Prelude.{ℕ}
 abbrev pub ba_op_invalid : ℕ
 ba_op_invalid = 0
 
--- the code goes on behind the function's start
+-- the code goes on after the function's start
 abbrev pub ba_op_code_offset : ℕ
 ba_op_code_offset = 1
 
@@ -21,7 +21,7 @@ ba_op_change_code_offset = 3
 abbrev pub ba_op_change_code_length : ℕ
 ba_op_change_code_length = 4
 
--- the file of the rows behind
+-- the file of the rows after
 abbrev pub ba_op_change_file : ℕ
 ba_op_change_file = 5
 

@@ -1,6 +1,6 @@
 -- Binary annotations: the list that says where the code and the lines of an inlined body go on.
-use Rattle.std.specs.Option.{ok_or}
-use Rattle.std.specs.Prelude.{ℕ, ◌/◌, ◌%◌, ◌==◌, ◌&&◌, nat_le, List, [], drop, Result, Ok, Err, if◌then◌else◌}
+use Rattle.std.specs.Option.{ok_or, option_map_or}
+use Rattle.std.specs.Prelude.{ℕ, ◌/◌, ◌%◌, ◌==◌, ◌&&◌, nat_le, List, [], drop, Option, Result, Ok, Err, if◌then◌else◌}
 use Rattle.pdb_records.specs.Readings.{Read}
 use Rattle.pdb_records.specs.declared.error.StreamError.{StreamError}
 use Rattle.pdb_msf.specs.declared.faults.TheConstants.{APART, BAD_NUMBER}
@@ -14,24 +14,29 @@ use Rattle.pdb_codeview.specs.AnnotationKinds.{ba_op_change_line_end_delta, ba_o
 use Rattle.pdb_codeview.specs.AnnotationKinds.{ba_op_code_offset, ba_op_invalid}
 use Rattle.pdb_codeview.specs.Compressed.{compressed, width}
 use Rattle.pdb_codeview.specs.declared.annotations.Annotation.{Annotation}
-use Rattle.pdb_codeview.specs.declared.annotations.Annotation.TheVariants.{Advance, AdvanceAndLine, File, Length}
-use Rattle.pdb_codeview.specs.declared.annotations.Annotation.TheVariants.{LengthAndAdvance, Line, Other, Start}
+use Rattle.pdb_codeview.specs.declared.annotations.Annotation.TheVariants.{Advance, AdvanceAndLine, Chunk, File}
+use Rattle.pdb_codeview.specs.declared.annotations.Annotation.TheVariants.{Length, LengthAndAdvance, Line, Other, Start}
 
 -- the compressed number that these bytes begin with, or that they begin with none
 abbrev pub first_number : List ℕ → Result ℕ StreamError
 first_number bytes = ok_or (compressed bytes) BAD_NUMBER
 
--- what stands behind the compressed number that these bytes begin with
+-- what stands after the compressed number that these bytes begin with
 abbrev pub behind_number : List ℕ → List ℕ
 behind_number bytes = drop (width bytes) bytes
 
--- an annotation of one number by its kind: a chunk of code is taken for the main one alone, 0; where code and line
--- change together, the lowest four bits are the code's offset and the others the line's; of the kinds from
+-- what ChangeCodeOffsetBase says, by where the chunk of each number starts: the main code, 0, is where reading begins,
+-- and another chunk is followed if it is there
+abbrev pub of_chunk : (ℕ → Option ℕ) → ℕ → Result Annotation StreamError
+of_chunk chunk number = if number == 0 then Ok Other else option_map_or (λ start. Ok (Chunk start)) (chunk number) (Err APART)
+
+-- an annotation of one number by its kind, and by where the chunks of its function start; where code and line change
+-- together, the lowest four bits are the code's offset and the others the line's; of the kinds from
 -- ChangeLineEndDelta to ChangeColumnEndDelta, and of ChangeColumnEnd, rows show nothing
-abbrev pub of_one_number : ℕ → ℕ → Result Annotation StreamError
-of_one_number kind number =
+abbrev pub of_one_number : (ℕ → Option ℕ) → ℕ → ℕ → Result Annotation StreamError
+of_one_number chunk kind number =
     if kind == ba_op_code_offset then Ok (Start number) else
-    if kind == ba_op_change_code_offset_base then (if number == 0 then Ok Other else Err APART) else
+    if kind == ba_op_change_code_offset_base then of_chunk chunk number else
     if kind == ba_op_change_code_offset then Ok (Advance number) else
     if kind == ba_op_change_code_length then Ok (Length number) else
     if kind == ba_op_change_file then Ok (File number) else
@@ -42,27 +47,27 @@ of_one_number kind number =
     Err BAD_NUMBER
 
 -- an annotation of two numbers, ChangeCodeLengthAndCodeOffset, by the first of them, the length, and the bytes
--- behind it, which begin with the offset; and what stands behind it
+-- after it, which begin with the offset; and what stands after it
 abbrev pub of_two_numbers : ℕ → List ℕ → Result (Annotation × List ℕ) StreamError
 of_two_numbers length bytes = do
   offset ← first_number bytes
   Ok (LengthAndAdvance length offset, behind_number bytes)
 
--- the annotation of a kind whose numbers these bytes begin with, and what stands behind it
-abbrev pub annotation_of : ℕ → List ℕ → Result (Annotation × List ℕ) StreamError
-annotation_of kind bytes = do
+-- the annotation of a kind whose numbers these bytes begin with, and what stands after it
+abbrev pub annotation_of : (ℕ → Option ℕ) → ℕ → List ℕ → Result (Annotation × List ℕ) StreamError
+annotation_of chunk kind bytes = do
   number ← first_number bytes
   if kind == ba_op_change_code_length_and_code_offset then of_two_numbers number (behind_number bytes) else (do
-    annotation ← of_one_number kind number
+    annotation ← of_one_number chunk kind number
     Ok (annotation, behind_number bytes))
 
--- the annotation that stands first, and what stands behind it: its kind, and its numbers behind that; one of the kind
--- Invalid ends the list, so that nothing stands behind it, and rows show nothing of it
-abbrev pub first_annotation : List ℕ → Result (Annotation × List ℕ) StreamError
-first_annotation bytes = do
+-- the annotation that stands first, and what stands after it: its kind, and its numbers after that; one of the kind
+-- Invalid ends the list, so that nothing stands after it, and rows show nothing of it
+abbrev pub first_annotation : (ℕ → Option ℕ) → List ℕ → Result (Annotation × List ℕ) StreamError
+first_annotation chunk bytes = do
   kind ← first_number bytes
-  if kind == ba_op_invalid then Ok (Other, []) else annotation_of kind (behind_number bytes)
+  if kind == ba_op_invalid then Ok (Other, []) else annotation_of chunk kind (behind_number bytes)
 
 -- all annotations of these bytes
-abbrev pub annotations : List ℕ → Read Annotation
-annotations bytes = all_items first_annotation bytes
+abbrev pub annotations : (ℕ → Option ℕ) → List ℕ → Read Annotation
+annotations chunk bytes = all_items (first_annotation chunk) bytes

@@ -15,7 +15,7 @@ abbrev pub width : List ℕ → ℕ
 width [] = 0
 width (first ∷ rest) = width_by first
 
--- the number in so many bytes: the bits behind the highest ones, the highest byte first
+-- the number in so many bytes: the bits after the highest ones, the highest byte first
 abbrev pub number_in : ℕ → List ℕ → Option ℕ
 number_in size bytes =
     if size == 1 then Some (slice_index bytes 0) else

@@ -8,14 +8,14 @@ use Rattle.pdb_msf.specs.NumberLists.{listed, number}
 use Rattle.pdb_msf.specs.Readings.{whole}
 use Rattle.pdb_msf.specs.ItemLists.{all_items}
 
--- the import of so many numbers that stands first behind the key of the other module's name and their count, and what
--- stands behind it
+-- the import of so many numbers that stands first after the key of the other module's name and their count, and what
+-- stands after it
 abbrev pub import_of : ℕ → ℕ → List ℕ → Result (Imported × List ℕ) StreamError
 import_of name count bytes = do
   locals ← listed count bytes
   Ok (record { module_name = record { 0 = name }; locals = locals }, drop (4 * count) bytes)
 
--- the import that stands first, and what stands behind it: the key of the other module's name, how many numbers follow,
+-- the import that stands first, and what stands after it: the key of the other module's name, how many numbers follow,
 -- and those
 abbrev pub first_import : List ℕ → Result (Imported × List ℕ) StreamError
 first_import bytes =
@@ -28,7 +28,7 @@ first_import bytes =
 abbrev pub imports : List ℕ → Result (List Imported) StreamError
 imports bytes = whole (all_items first_import bytes)
 
--- the export that stands first, and what stands behind it: localId, the number under which a module offers a type or an
+-- the export that stands first, and what stands after it: localId, the number under which a module offers a type or an
 -- id, and at 4 globalId, the index of that
 abbrev pub first_export : List ℕ → Result ((ℕ × ℕ) × List ℕ) StreamError
 first_export bytes =

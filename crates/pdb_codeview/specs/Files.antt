@@ -8,7 +8,7 @@ use Rattle.pdb_records.specs.declared.lines.FileIndex.{FileIndex}
 use Rattle.pdb_msf.specs.NumberLists.{number}
 use Rattle.pdb_msf.specs.declared.faults.TheConstants.{CUT}
 use Rattle.pdb_codeview.specs.declared.files.FileEntry.{FileEntry}
-use Rattle.pdb_msf.specs.ItemLists.{all_items, first_padded, together}
+use Rattle.pdb_msf.specs.ItemLists.{all_items, first_padded, concatenated}
 
 -- the position of the first file whose entry starts there in its subsection
 abbrev pub file_position : ℕ → List FileEntry → Option ℕ
@@ -34,7 +34,7 @@ file_entry whole bytes = record {
 abbrev pub entry_size : List ℕ → ℕ
 entry_size bytes = 6 + slice_index bytes 4
 
--- the entry that stands next in a subsection of so many bytes, and what stands behind it; one that they end in is cut
+-- the entry that stands next in a subsection of so many bytes, and what stands after it; one that they end in is cut
 abbrev pub first_entry : ℕ → List ℕ → Result (FileEntry × List ℕ) StreamError
 first_entry whole bytes =
     if nat_lt (length bytes) 6 then Err CUT else
@@ -47,4 +47,4 @@ file_entries bytes = all_items (first_padded (first_entry (length bytes))) bytes
 
 -- the entries of several subsections, one after the other up to the first fault
 abbrev pub all_entries : List (List ℕ) → Read FileEntry
-all_entries subsections = together file_entries subsections
+all_entries subsections = concatenated file_entries subsections

@@ -8,12 +8,12 @@ use Rattle.pdb_records.specs.declared.lines.FileIndex.{FileIndex}
 use Rattle.pdb_records.specs.declared.symbols.InlineRow.{InlineRow}
 use Rattle.pdb_msf.specs.Readings.{nothing_read}
 use Rattle.pdb_codeview.specs.declared.files.FileEntry.{FileEntry}
-use Rattle.pdb_codeview.specs.declared.inline_rows.RowPosition.{RowPosition}
+use Rattle.pdb_codeview.specs.declared.annotation_rows.RowPosition.{RowPosition}
 use Rattle.pdb_codeview.specs.declared.inline_sites.CodeRecords.{CodeRecords}
 use Rattle.pdb_codeview.specs.declared.inlinees.InlineeSource.{InlineeSource}
 use Rattle.pdb_codeview.specs.Annotations.{annotations}
 use Rattle.pdb_codeview.specs.Files.{named_file}
-use Rattle.pdb_codeview.specs.InlineRows.{rows_from}
+use Rattle.pdb_codeview.specs.AnnotationRows.{rows_from}
 
 -- what sites refer to: the module's files, and where each function starts whose body stands in the module's code
 pub record ModuleCode : Type 0 where
@@ -40,14 +40,16 @@ named_row entries row = record row { file_index = file_at entries row.file_index
 abbrev pub first_position : InlineeSource → ℕ → RowPosition
 first_position source start = record { start = start; offset = start; file = source.file; line = source.line }
 
--- the rows that annotations make of an inlined function, by where it starts: none where the module doesn't list it
-abbrev pub rows_by : Option InlineeSource → List FileEntry → ℕ → List ℕ → Read InlineRow
-rows_by None entries start bytes = nothing_read None
-rows_by (Some source) entries start bytes = record {
-  items = map (named_row entries) (rows_from (first_position source start) None (annotations bytes).items);
-  fault = (annotations bytes).fault;
+-- the rows that annotations make of an inlined function, by where it starts, in code that starts at an offset and whose
+-- function has these chunks: none where the module doesn't list it
+abbrev pub rows_by : Option InlineeSource → List FileEntry → (ℕ → Option ℕ) → ℕ → List ℕ → Read InlineRow
+rows_by None entries chunk start bytes = nothing_read None
+rows_by (Some source) entries chunk start bytes = record {
+  items = map (named_row entries) (rows_from (first_position source start) None (annotations chunk bytes).items);
+  fault = (annotations chunk bytes).fault;
 }
 
--- the rows of a site of this inlinee, in code that starts at an offset, by its annotations
-abbrev pub site_rows : ModuleCode → ℕ → ℕ → List ℕ → Read InlineRow
-site_rows code inlinee start bytes = rows_by (code.sources inlinee) code.files start bytes
+-- the rows of a site of this inlinee, in code that starts at an offset and whose function has these chunks, by its
+-- annotations
+abbrev pub site_rows : ModuleCode → (ℕ → Option ℕ) → ℕ → ℕ → List ℕ → Read InlineRow
+site_rows code chunk inlinee start bytes = rows_by (code.sources inlinee) code.files chunk start bytes

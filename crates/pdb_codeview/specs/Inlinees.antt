@@ -8,7 +8,7 @@ use Rattle.pdb_msf.specs.Faults.{◌>>=◌}
 use Rattle.pdb_msf.specs.NumberLists.{number}
 use Rattle.pdb_msf.specs.Readings.{nothing_read}
 use Rattle.pdb_msf.specs.declared.faults.TheConstants.{CUT, UNKNOWN_VERSION}
-use Rattle.pdb_msf.specs.ItemLists.{all_items, together}
+use Rattle.pdb_msf.specs.ItemLists.{all_items, concatenated}
 use Rattle.pdb_codeview.specs.declared.inlinees.InlineeSource.{InlineeSource}
 use Rattle.pdb_codeview.specs.declared.inlinees.ListedInlinee.{ListedInlinee}
 
@@ -24,7 +24,7 @@ listed_inlinee bytes = record {
   source = record { file = number (drop 4 bytes); line = number (drop 8 bytes) };
 }
 
--- what stands behind the further files of an entry (InlineeSourceLineEx): countOfExtraFiles, and an extraFileId of four
+-- what stands after the further files of an entry (InlineeSourceLineEx): countOfExtraFiles, and an extraFileId of four
 -- bytes for each
 abbrev pub behind_files : List ℕ → Result (List ℕ) StreamError
 behind_files bytes =
@@ -32,11 +32,11 @@ behind_files bytes =
     if nat_lt (length (drop 4 bytes)) (4 * number bytes) then Err CUT else
     Ok (drop (4 * number bytes) (drop 4 bytes))
 
--- what stands behind the twelve bytes of an entry, in a list of this form: entries of the form 1 have further files
+-- what stands after the twelve bytes of an entry, in a list of this form: entries of the form 1 have further files
 abbrev pub behind_inlinee : ℕ → List ℕ → Result (List ℕ) StreamError
 behind_inlinee form bytes = if form == 1 then behind_files bytes else Ok bytes
 
--- the entry that stands first in a list of this form, and what stands behind it
+-- the entry that stands first in a list of this form, and what stands after it
 abbrev pub first_inlinee : ℕ → List ℕ → Result (ListedInlinee × List ℕ) StreamError
 first_inlinee form bytes = if nat_lt (length bytes) 12 then Err CUT else (do
   rest ← behind_inlinee form (drop 12 bytes)
@@ -53,7 +53,7 @@ inlinees_in bytes =
 
 -- the entries of several subsections, one after the other up to the first fault
 abbrev pub all_inlinees : List (List ℕ) → Read ListedInlinee
-all_inlinees subsections = together inlinees_in subsections
+all_inlinees subsections = concatenated inlinees_in subsections
 
 -- an entry by its id alone
 abbrev pub inlinee : ListedInlinee → Inlinee

@@ -14,7 +14,7 @@ begun_at start [] = []
 begun_at start (row ∷ rows) = record row { offset = start } ∷ rows
 
 -- the rows over the bytes from an offset on, of rows by offset: the last one at or before the offset, or where there is
--- none the first one, begins there, and those behind it follow
+-- none the first one, begins there, and those after it follow
 abbrev pub rows_from : ℕ → List LineInfo → List LineInfo
 rows_from start rows = begun_at start (from_last (λ row. row.offset) start rows)
 

@@ -5,7 +5,7 @@ use Rattle.std.specs.Ordering.{nat_cmp, is_lt}
 use Rattle.pdb_tables.specs.InOrder.{in_order}
 use Rattle.pdb_records.specs.declared.addresses.PdbInternalSectionOffset.{PdbInternalSectionOffset}
 
--- a section offset as a number: sections stand one behind the other, each 4 GiB behind the one before
+-- a section offset as a number: sections stand one after the other, each 4 GiB after the one before
 abbrev pub place : PdbInternalSectionOffset → ℕ
 place section_offset = section_offset.section * 2 ^ 32 + section_offset.offset
 

@@ -34,7 +34,7 @@ end_before span [] = end_of span
 end_before span (next ∷ spans) =
     if span.start.section == next.start.section then min (end_of span) next.start.offset else end_of span
 
--- the place behind a procedure
+-- the place after a procedure
 abbrev pub place_behind : ProcedureSpan → ℕ
 place_behind span = place span.start + span.len
 

@@ -5,25 +5,26 @@ use Rattle.std.specs.List.{position_from}
 use Rattle.std.specs.Option.{unwrap_or}
 use Rattle.pdb_records.specs.Readings.{Read}
 use Rattle.pdb_records.specs.declared.error.StreamError.{StreamError}
+use Rattle.pdb_records.specs.declared.addresses.PdbInternalSectionOffset.{PdbInternalSectionOffset}
 use Rattle.pdb_records.specs.declared.symbols.SymbolIndex.{SymbolIndex}
 use Rattle.pdb_msf.specs.declared.faults.TheConstants.{BAD_LENGTH, CUT}
 use Rattle.pdb_msf.specs.Bytes.{counted_text_in, text_in}
 use Rattle.pdb_msf.specs.Faults.{◌>>=◌}
 use Rattle.pdb_msf.specs.ItemLists.{all_items}
-use Rattle.pdb_msf.specs.NumberLists.{two_byte_number}
+use Rattle.pdb_msf.specs.NumberLists.{number, two_byte_number}
 use Rattle.pdb_codeview.specs.SymbolKinds.{s_align, s_skip}
 
--- a symbol record: where it starts in its stream, in bytes; its kind; and what stands behind the kind
+-- a symbol record: where it starts in its stream, in bytes; its kind; and what stands after the kind
 pub record SymbolBytes : Type 0 where
   pub start : ℕ
   pub raw_kind : ℕ
   pub content : List ℕ
 
--- reclen, the number of two bytes that a record begins with: how many bytes of the record stand behind it
+-- reclen, the number of two bytes that a record begins with: how many bytes of the record stand after it
 abbrev pub reclen : List ℕ → ℕ
 reclen bytes = two_byte_number bytes
 
--- what stands behind reclen in the record that these bytes begin with: where they end before, the record is cut; one
+-- what stands after reclen in the record that these bytes begin with: where they end before, the record is cut; one
 -- that has no room for its kind has a bad length
 abbrev pub behind_reclen : List ℕ → Result (List ℕ) StreamError
 behind_reclen bytes =
@@ -32,11 +33,11 @@ behind_reclen bytes =
     if nat_lt (reclen bytes) 2 then Err BAD_LENGTH else
     Ok (take (reclen bytes) (drop 2 bytes))
 
--- the record that starts at a place, by what stands behind reclen: rectyp, its kind, in two bytes, and its content
+-- the record that starts at a place, by what stands after reclen: rectyp, its kind, in two bytes, and its content
 abbrev pub record_at : ℕ → List ℕ → SymbolBytes
 record_at start bytes = record { start = start; raw_kind = two_byte_number bytes; content = drop 2 bytes }
 
--- the record that stands next in a list that ends at a place, and what stands behind it
+-- the record that stands next in a list that ends at a place, and what stands after it
 abbrev pub first_record : ℕ → List ℕ → Result (SymbolBytes × List ℕ) StreamError
 first_record end bytes = do
   behind ← behind_reclen bytes
@@ -58,7 +59,7 @@ symbols_among list = record { items = filter (λ read. not (is_filler read)) lis
 abbrev pub symbol_records : ℕ → List ℕ → Read SymbolBytes
 symbol_records front bytes = symbols_among (all_records front bytes)
 
--- the position of the first symbol that starts at a place or behind it; where none does, the one behind them all
+-- the position of the first symbol that starts at a place or after it; where none does, the one after them all
 abbrev pub position_at : List SymbolBytes → ℕ → SymbolIndex
 position_at symbols place =
     record { 0 = unwrap_or (position_from (λ symbol. nat_le place symbol.start) 0 symbols) (length symbols) }
@@ -67,7 +68,14 @@ position_at symbols place =
 abbrev pub name_in : ℕ → List ℕ → Option (List ℕ)
 name_in raw_kind bytes = if nat_lt raw_kind 0x1100 then counted_text_in bytes else text_in bytes
 
--- the name behind the first bytes of a symbol's content, so many, where it is there
+-- the name after the first bytes of a symbol's content, so many, where it is there
 abbrev pub name_behind : ℕ → SymbolBytes → Option (List ℕ)
 name_behind size symbol =
     if nat_lt (length symbol.content) size then None else name_in symbol.raw_kind (drop size symbol.content)
+
+-- the section offset whose offset stands at one place of a symbol's content, and its section at another
+abbrev pub section_offset : ℕ → ℕ → List ℕ → PdbInternalSectionOffset
+section_offset offset section content = record {
+  section = two_byte_number (drop section content);
+  offset = number (drop offset content);
+}

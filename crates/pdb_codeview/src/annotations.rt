@@ -1,9 +1,11 @@
 //! The annotations of an inline site: compressed numbers that say where its code and its lines go on.
 
 ghost use Rattle.std.specs.Prelude.{◌≡◌, MatchResult, OnOk, Ok, Err};
-ghost use Rattle.pdb_codeview.specs.Annotations.{annotation_of, behind_number, first_number, of_one_number};
+ghost use Rattle.pdb_codeview.specs.Annotations.{annotation_of, behind_number, first_number, of_chunk, of_one_number};
+ghost use Rattle.pdb_codeview.specs.Chunks.{numbered_start};
 ghost use Rattle.pdb_codeview.specs.Compressed.{compressed, width};
 
+use crate::chunks::{Chunk, numbered_start};
 use pdb_msf::faults::{APART, BAD_NUMBER, Fault};
 use pdb_msf::{Bytes, ItemReader};
 use pdb_records::StreamError;
@@ -35,11 +37,11 @@ const COLUMN_END: u32 = 13;
 /// A step of the list that says where the code of an inlined body stands, and of which lines it is.
 #[derive(Clone, Copy)]
 pub enum Annotation {
-    /// The code goes on so many bytes behind the function's start.
+    /// The code goes on so many bytes after the function's start.
     Start(u32),
     /// The code goes on so many bytes further, and a row starts there.
     Advance(u32),
-    /// The row before is so long, and the code goes on behind it.
+    /// The row before is so long, and the code goes on after it.
     Length(u32),
     /// The rows that follow come from this file.
     File(u32),
@@ -51,19 +53,26 @@ pub enum Annotation {
     /// The code goes on as many bytes further as the second number says, and a row starts there that is
     /// as long as the first says.
     LengthAndAdvance(u32, u32),
+    /// The code goes on in separated code that starts at this offset of its section.
+    Chunk(u32),
     /// Nothing that rows show.
     Other,
 }
 
-/// The annotations of a site. One of the kind 0 ends them.
-pub(crate) struct Annotations;
+/// The annotations of a site in code of this section, whose function has these chunks. One of the kind 0 ends them.
+#[derive(Drop)]
+pub(crate) struct Annotations<'a> {
+    pub(crate) section: u16,
+    pub(crate) chunks: &'a [Chunk],
+}
 
-impl<'a> ItemReader<'a> for Annotations {
+impl<'a> ItemReader<'a> for Annotations<'a> {
     type Item = Annotation;
 
     ghost use Rattle.pdb_codeview.specs.Annotations.{first_annotation};
+    ghost use Rattle.pdb_codeview.specs.Chunks.{numbered_start};
 
-    ghost first = { λ _. first_annotation };
+    ghost first = { λ list. first_annotation (numbered_start list.section list.chunks.now) };
 
     fn take(&self, rest: &mut Bytes<'a>) -> Result<Annotation, Fault> {
         let kind = take_number(rest)?;
@@ -71,37 +80,56 @@ impl<'a> ItemReader<'a> for Annotations {
             *rest = Bytes::new(&[]);
             return Ok(Annotation::Other);
         }
-        Ok(take_annotation(kind, rest)?)
+        Ok(take_annotation(self, kind, rest)?)
     }
 }
 
-// The annotation of this kind, with its numbers.
-fn take_annotation(kind: u32, rest: &mut Bytes<'_>) -> Result<Annotation, StreamError>
+// The annotation of this kind in such a list, with its numbers.
+fn take_annotation(
+    list: &Annotations<'_>,
+    kind: u32,
+    rest: &mut Bytes<'_>,
+) -> Result<Annotation, StreamError>
     ensures { MatchResult result
-        (λ annotation. annotation_of kind rest.old ≡ Ok (annotation, rest.new))
-        (λ error. annotation_of kind rest.old ≡ Err error) }
+        (λ annotation.
+        annotation_of (numbered_start list.now.section list.now.chunks.now) kind rest.old
+        ≡ Ok (annotation, rest.new))
+        (λ error. annotation_of (numbered_start list.now.section list.now.chunks.now) kind rest.old ≡ Err error) }
 {
     let number = take_number(rest)?;
     if kind == CODE_LENGTH_AND_CODE_OFFSET {
         return Ok(Annotation::LengthAndAdvance(number, take_number(rest)?));
     }
-    of_one_number(kind, number)
+    of_one_number(list, kind, number)
 }
 
-// The annotation of this kind, where it has one number.
-fn of_one_number(kind: u32, number: u32) -> Result<Annotation, StreamError>
-    ensures { result ≡ of_one_number kind number }
+// The annotation of this kind in such a list, where it has one number.
+fn of_one_number(list: &Annotations<'_>, kind: u32, number: u32) -> Result<Annotation, StreamError>
+    ensures { result ≡ of_one_number (numbered_start list.now.section list.now.chunks.now) kind number }
 {
     match kind {
         CODE_OFFSET => Ok(Annotation::Start(number)),
-        CODE_OFFSET_BASE if number > 0 => Err(APART),
+        CODE_OFFSET_BASE => of_chunk(list, number),
         CHANGE_CODE_OFFSET => Ok(Annotation::Advance(number)),
         CODE_LENGTH => Ok(Annotation::Length(number)),
         FILE => Ok(Annotation::File(number)),
         LINE_OFFSET => Ok(Annotation::Line(number)),
         CODE_OFFSET_AND_LINE_OFFSET => Ok(Annotation::AdvanceAndLine(number % 16, number / 16)),
-        CODE_OFFSET_BASE | LINE_END_DELTA..=COLUMN_END_DELTA | COLUMN_END => Ok(Annotation::Other),
+        LINE_END_DELTA..=COLUMN_END_DELTA | COLUMN_END => Ok(Annotation::Other),
         _ => Err(BAD_NUMBER),
+    }
+}
+
+// The annotation of such a list that names the chunk of this number. The number 0 is the main code.
+fn of_chunk(list: &Annotations<'_>, number: u32) -> Result<Annotation, StreamError>
+    ensures { result ≡ of_chunk (numbered_start list.now.section list.now.chunks.now) number }
+{
+    if number == 0 {
+        return Ok(Annotation::Other);
+    }
+    match numbered_start(list.chunks, list.section, number) {
+        Some(start) => Ok(Annotation::Chunk(start)),
+        None => Err(APART),
     }
 }
 

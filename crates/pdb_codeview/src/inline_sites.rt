@@ -1,16 +1,18 @@
 //! An inline site's rows, beginning with the line and the file of its inlinee.
 
 ghost use Rattle.std.specs.Prelude.{◌≡◌, map, IfErr, IfOk};
+ghost use Rattle.pdb_codeview.specs.Chunks.{numbered_start};
 ghost use Rattle.pdb_codeview.specs.InlineSites.{code_of, named_row, site_rows};
 
+use crate::annotation_rows::{RowPosition, rows_of};
 use crate::annotations::Annotations;
+use crate::chunks::Chunk;
 use crate::files::Files;
-use crate::inline_rows::{RowPosition, rows_of};
 use crate::inlinees::Inlinees;
-use crate::lines::file_at;
+use crate::line_subsections::file_at;
 use pdb_msf::faults::Fault;
 use pdb_msf::{nothing_read, read_items};
-use pdb_records::{IdIndex, InlineRow, Reading};
+use pdb_records::{IdIndex, InlineRow, PdbInternalSectionOffset, Reading};
 use std::alloc::{AllocError, Global};
 
 /// What the sites of a module refer to.
@@ -20,28 +22,31 @@ pub struct CodeRecords {
     pub inlinees: Inlinees,
 }
 
-/// The rows of a site in a function that starts at this offset of its section. There are none where the
-/// module doesn't list the function that was inlined.
-pub fn site_rows(
+/// The rows of a site in code that starts there, of a function with these chunks. There are none where the module
+/// doesn't list the function that was inlined.
+pub(crate) fn site_rows(
     alloc: Global,
     code: &CodeRecords,
+    chunks: &[Chunk],
     inlinee: IdIndex,
-    start: u32,
+    start: PdbInternalSectionOffset,
     annotations: &[u8],
 ) -> Result<Reading<InlineRow>, Fault>
-    ensures answer { IfOk result (λ rows. rows ≡ site_rows (code_of code.now) inlinee.0 start annotations.now) }
+    ensures answer { IfOk result (λ rows. rows
+        ≡ site_rows (code_of code.now) (numbered_start start.section chunks.now) inlinee.0 start.offset annotations.now) }
     ensures memory { IfErr result (λ fault. fault ≡ Fault.OutOfMemory) }
 {
     let Some(source) = code.inlinees.sources.get(&inlinee.0) else {
         return Ok(nothing_read(alloc, None));
     };
     let position = RowPosition {
-        start,
-        offset: start,
+        start: start.offset,
+        offset: start.offset,
         file: source.file,
         line: source.line,
     };
-    let annotations = read_items(alloc, &Annotations, annotations)?;
+    let section = start.section;
+    let annotations = read_items(alloc, &Annotations { section, chunks }, annotations)?;
     let rows = rows_of(alloc, &annotations.items, position)?;
     let items = named_rows(alloc, &rows, &code.files)?;
     let fault = annotations.fault;

@@ -107,7 +107,7 @@ fn push_all_inlinees(
     Ok(None)
 }
 
-// Appends the entries of a subsection, behind the number of its form.
+// Appends the entries of a subsection, after the number of its form.
 fn push_subsection(
     bytes: &[u8],
     listed: &mut Vec<ListedInlinee>,

@@ -4,27 +4,28 @@
 //! `pdb_msf::faults`.
 #![tactic(auto)]
 
+mod annotation_rows;
 mod annotations;
+mod chunks;
 mod cross_modules;
 mod files;
-mod inline_rows;
 mod inline_sites;
 mod inlinees;
-mod line_entries;
+mod line_program;
 mod line_rows;
-mod lines;
+mod line_subsections;
 mod places;
 mod procedure_spans;
+mod symbol_contents;
 mod symbol_layout;
 mod symbol_records;
-mod symbols;
 
 pub use cross_modules::{read_exports, read_imports};
 pub use files::{Files, read_files};
 pub use inline_sites::CodeRecords;
 pub use inlinees::{Inlinees, read_inlinees};
-pub use line_entries::program_entries;
-pub use lines::{LineSubsection, read_lines};
+pub use line_program::program_entries;
+pub use line_subsections::{LineSubsection, read_lines};
 pub use places::place;
 pub use procedure_spans::{ProcedureSpan, span_of, symbol_spans};
-pub use symbols::{S_TRAMPOLINE, read_global_symbols, read_symbols};
+pub use symbol_contents::{S_TRAMPOLINE, read_global_symbols, read_symbols};

@@ -1,6 +1,7 @@
 //! Section offsets as numbers, and lists that are sorted and gone through by them.
 
 ghost use Rattle.std.specs.Prelude.{◌≡◌, ◌≤◌, ◌<◌, ◌^◌, ℕ, None, IfOk, OnOk};
+ghost use Rattle.std.specs.List.Sorted.{IsNonDecreasingBy};
 ghost use Rattle.pdb_tables.specs.InOrder.{in_order};
 ghost use Rattle.pdb_codeview.specs.Places.{place, stands_before, firsts_after, first_of_each_place, from_last};
 
@@ -15,7 +16,7 @@ pub(crate) trait HasPlace {
         ensures { result ≡ place_of self.now };
 }
 
-/// A section offset as a number: sections stand one behind the other, each 4 GiB behind the one before.
+/// A section offset as a number: sections stand one after the other, each 4 GiB after the one before.
 pub fn place(section_offset: PdbInternalSectionOffset) -> u64
     ensures answer { result ≡ place section_offset }
     ensures small { result < 2 ^ 48 }
@@ -26,6 +27,7 @@ pub fn place(section_offset: PdbInternalSectionOffset) -> u64
 /// Puts a list in order of its places. What has one place stays in the order that it had.
 pub(crate) fn sort_by_place<T: HasPlace>(items: &mut Vec<T>) -> Result<(), AllocError>
     ensures state { OnOk result (items.new.items ≡ in_order (stands_before T.place_of) items.old.items) }
+    ensures ascending { OnOk result (IsNonDecreasingBy T.place_of items.new.items) }
 {
     items.sort_by_key(|item| item.place())
 }

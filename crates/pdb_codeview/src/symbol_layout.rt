@@ -1,4 +1,4 @@
-//! Where symbols have their parts, in bytes from behind the kind, and which part stands there in the published format.
+//! Where symbols have their parts, in bytes from after the kind, and which part stands there in the published format.
 
 /// The symbol that closes one which opens a block (`pEnd`): a procedure, a thunk, separated code, or an inline site.
 pub(crate) const END: usize = 4;
@@ -20,6 +20,9 @@ pub(crate) const PROCEDURE_OFFSET: usize = 28;
 pub(crate) const PROCEDURE_SECTION: usize = 32;
 
 pub(crate) const PROCEDURE_NAME: usize = 35;
+
+/// The name of a procedure whose symbol says `retReg` too (`PROCSYMIA64`, `MANPROCSYM`). All else stands as in others.
+pub(crate) const PROCEDURE_NAME_BEHIND_REGISTER: usize = 37;
 
 /// A thunk (`THUNKSYM32`): `off`, `seg`, `len`, and `name`.
 pub(crate) const THUNK_OFFSET: usize = 12;
@@ -56,7 +59,7 @@ pub(crate) const JUMP_TARGET_SECTION: usize = 14;
 
 pub(crate) const JUMP_SIZE: usize = 16;
 
-/// An inline site (`INLINESITESYM`): `inlinee`, and `binaryAnnotations`, which stand behind `invocations` in the second
+/// An inline site (`INLINESITESYM`): `inlinee`, and `binaryAnnotations`, which stand after `invocations` in the second
 /// form (`INLINESITESYM2`).
 pub(crate) const INLINEE: usize = 8;
 

@@ -25,7 +25,7 @@ pub(crate) struct SymbolRecord<'a> {
     /// Where it starts, in bytes from the start of its stream.
     pub(crate) start: usize,
     pub(crate) raw_kind: u16,
-    /// What stands behind the kind.
+    /// What stands after the kind.
     pub(crate) content: &'a [u8],
 }
 
@@ -45,7 +45,7 @@ impl<'a> SymbolRecord<'a> {
         self.raw_kind == S_ALIGN || self.raw_kind == S_SKIP
     }
 
-    /// The name behind the first bytes of its content, so many, where it is there.
+    /// The name after the first bytes of its content, so many, where it is there.
     pub(crate) fn name_behind(&self, size: usize) -> Option<&'a [u8]>
         ensures answer { option_map (λ name. name.now) result ≡ name_behind size self.now }
         ensures there { IfSome result (λ _. size ≤ length self.now.content) }
@@ -70,7 +70,7 @@ fn name_in(raw_kind: u16, bytes: &[u8]) -> Option<&[u8]>
     }
 }
 
-/// The position of the first symbol that starts at a place or behind it. The symbols stand by where they start.
+/// The position of the first symbol that starts at a place or after it. The symbols stand by where they start.
 pub(crate) fn position_at(symbols: &[SymbolRecord<'_>], place: u32) -> SymbolIndex
     requires { IsNonDecreasingBy (λ symbol. symbol.start) symbols.now }
     ensures { result ≡ position_at symbols.now place }

@@ -10,12 +10,12 @@ use Rattle.pdb_msf.specs.Msf.{Msf, numbers_place, size_of, stream_of}
 use Rattle.pdb_msf.specs.NumberLists.{listed}
 use Rattle.pdb_msf.specs.Streams.{stream_inside}
 use Rattle.pdb_msf.specs.ItemLists.{all_items}
-use Rattle.pdb_dbi.specs.Contributions.{contribution_list}
-use Rattle.pdb_dbi.specs.Header.{header}
+use Rattle.pdb_dbi.specs.ContributionSubstream.{contribution_list}
+use Rattle.pdb_dbi.specs.DebugHeader.{header}
 use Rattle.pdb_dbi.specs.OptionalStreams.{optional_stream}
-use Rattle.pdb_dbi.specs.Sections.{section_headers}
+use Rattle.pdb_dbi.specs.SectionHeaders.{section_headers}
 use Rattle.pdb_container.specs.DebugRecords.{address_map, address_map_of, debug_header, debug_information, debug_stream}
-use Rattle.pdb_container.specs.DebugRecords.{global_symbols, sections, sections_of, symbols_in}
+use Rattle.pdb_container.specs.DebugRecords.{global_symbols, sections, sections_of, symbol_stream}
 
 -- a number below 256, as two bytes and as four
 abbrev short : ℕ → List ℕ
@@ -24,7 +24,7 @@ short number = number ∷ 0 ∷ []
 abbrev small : ℕ → List ℕ
 small number = number ∷ 0 ∷ 0 ∷ 0 ∷ []
 
--- a block of 512 bytes that begins with these, with zeros behind them
+-- a block of 512 bytes that begins with these, with zeros after them
 abbrev block_of : List ℕ → List ℕ
 block_of bytes = take 512 (bytes ++ replicate 512 0)
 
@@ -128,11 +128,11 @@ one_symbol : global_symbols with_symbol ≡ Ok (record {
   } ∷ [];
   fault = None;
 })
-unfolding global_symbols symbols_in debug_header debug_stream stream_of size_of listed stream_inside numbers_place
+unfolding global_symbols symbol_stream debug_header debug_stream stream_of size_of listed stream_inside numbers_place
     header all_items
 one_symbol = refl
 
 no_symbols : global_symbols named ≡ Ok (record { items = []; fault = None })
-unfolding global_symbols symbols_in debug_header debug_stream stream_of size_of listed stream_inside numbers_place
+unfolding global_symbols symbol_stream debug_header debug_stream stream_of size_of listed stream_inside numbers_place
     header all_items
 no_symbols = refl

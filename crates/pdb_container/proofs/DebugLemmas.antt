@@ -3,11 +3,11 @@ use Rattle.std.proofs.Common.{◌≡◌, [], Ok, Err, ap}
 use Rattle.pdb_records.specs.declared.error.StreamError.{StreamError}
 use Rattle.pdb_msf.specs.Faults.{◌>>=◌}
 use Rattle.pdb_msf.specs.Msf.{Msf}
-use Rattle.pdb_dbi.specs.declared.header.DebugHeader.{DebugHeader}
-use Rattle.pdb_dbi.specs.ModuleList.{module_streams}
+use Rattle.pdb_dbi.specs.declared.debug_header.DebugHeader.{DebugHeader}
+use Rattle.pdb_dbi.specs.ModuleSubstream.{module_streams}
 use Rattle.pdb_container.specs.DebugRecords.{address_map, address_map_of, debug_header, debug_information}
 use Rattle.pdb_container.specs.DebugRecords.{global_symbols, information_of, sections, sections_of, streams_by}
-use Rattle.pdb_container.specs.DebugRecords.{streams_of_modules, symbols_in}
+use Rattle.pdb_container.specs.DebugRecords.{streams_of_modules, symbol_stream}
 
 -- without a header there is no debug information
 pub information_without : (msf : Msf) (error : StreamError) → debug_header msf ≡ Err error
@@ -29,7 +29,7 @@ address_map_without msf error is = ap (λ front. front >>= address_map_of msf) i
 -- nor symbols of the whole program
 pub symbols_without : (msf : Msf) (error : StreamError) → debug_header msf ≡ Err error → global_symbols msf ≡ Err error
 unfolding global_symbols
-symbols_without msf error is = ap (λ front. front >>= (λ h. symbols_in msf h.global_symbols)) is
+symbols_without msf error is = ap (λ front. front >>= (λ h. symbol_stream msf h.global_symbols)) is
 
 -- nor are there modules
 pub modules_without : (msf : Msf) (error : StreamError) → debug_header msf ≡ Err error → streams_of_modules msf ≡ []
@@ -56,9 +56,9 @@ address_map_with msf front is = ap (λ found. found >>= address_map_of msf) is
 
 -- the symbols of the whole program are those of the stream that the header names
 pub symbols_with : (msf : Msf) (front : DebugHeader) → debug_header msf ≡ Ok front
-    → global_symbols msf ≡ symbols_in msf front.global_symbols
+    → global_symbols msf ≡ symbol_stream msf front.global_symbols
 unfolding global_symbols
-symbols_with msf front is = ap (λ found. found >>= (λ h. symbols_in msf h.global_symbols)) is
+symbols_with msf front is = ap (λ found. found >>= (λ h. symbol_stream msf h.global_symbols)) is
 
 -- the modules are those of the header's list
 pub modules_with : (msf : Msf) (front : DebugHeader) → debug_header msf ≡ Ok front

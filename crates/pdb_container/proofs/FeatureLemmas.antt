@@ -14,7 +14,7 @@ both first second = record {
   names_only = first.names_only || second.names_only;
 }
 
--- the first number, and those behind it
+-- the first number, and those after it
 pub first_number : (bytes : List ℕ) → 4 ≤ length bytes
     → all_numbers bytes ≡ number bytes ∷ all_numbers (drop 4 bytes)
 first_number bytes there =

@@ -3,9 +3,9 @@ use Rattle.std.proofs.Common.{◌≡◌, ℕ, List, [], ◌∷◌, ◌++◌, ref
 use Rattle.std.specs.Prelude.{codes}
 use Rattle.std.proofs.Math.ListN.{replicate}
 use Rattle.pdb_msf.specs.declared.faults.TheConstants.{CUT, NO_STREAM, UNKNOWN_VERSION}
-use Rattle.pdb_container.specs.Info.{features, features_in, named_in, named_stream, version}
+use Rattle.pdb_container.specs.Info.{features, features_in, named_stream_number, named_stream, version}
 use Rattle.pdb_msf.specs.ItemLists.{all_items}
-use Rattle.pdb_container.specs.Strings.{string_table_in}
+use Rattle.pdb_container.specs.NameStream.{string_table_in}
 
 -- a number below 256, as four bytes
 abbrev small : ℕ → List ℕ
@@ -28,15 +28,15 @@ its_version : version (Ok (info_with [])) ≡ 20000404
 its_version = refl
 
 the_name : named_stream names_name (Ok (info_with [])) ≡ Ok 7
-unfolding named_in
+unfolding named_stream_number
 the_name = refl
 
 another_name : named_stream link_name (Ok (info_with [])) ≡ Err NO_STREAM
-unfolding named_in
+unfolding named_stream_number
 another_name = refl
 
 cut_before_the_pairs : named_stream names_name (Ok (small 0)) ≡ Err CUT
-unfolding named_in
+unfolding named_stream_number
 cut_before_the_pairs = refl
 
 -- the numbers of the features: 20091201, 20140508, and the letters MINI
@@ -65,7 +65,7 @@ both_listed : features (Ok (info_with (has_ids ++ mini))) ≡ record { ids = tru
 unfolding features_in
 both_listed = refl
 
--- behind 20091201 nothing is listed
+-- after 20091201 nothing is listed
 ended_by : features (Ok (info_with (first_with_ids ++ mini))) ≡ record { ids = true; names_only = false }
 unfolding features_in
 ended_by = refl
@@ -79,7 +79,7 @@ its_texts : string_table_in two_texts
 unfolding string_table_in all_items
 its_texts = refl
 
--- the last text has no zero behind it
+-- the last text has no zero after it
 cut_text : string_table_in (254 ∷ 239 ∷ 254 ∷ 239 ∷ [] ++ small 1 ++ small 2 ++ codes "ab") ≡ Err CUT
 unfolding string_table_in all_items
 cut_text = refl

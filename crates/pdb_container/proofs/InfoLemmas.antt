@@ -4,7 +4,7 @@ use Rattle.std.proofs.lemmas.List.{drop-drop}
 use Rattle.pdb_msf.specs.NumberLists.{number}
 use Rattle.pdb_container.specs.Info.{bits_size, names, present_place, table_place}
 
--- what stands behind a stretch that stands at a place
+-- what stands after a stretch that stands at a place
 pub behind_one : (info rest behind : List ℕ) (place size : ℕ) → rest ≡ drop place info → behind ≡ drop size rest
     → behind ≡ drop (place + size) info
 behind_one info rest behind place size at passed = passed ∙ ap (drop size) at ∙ drop-drop size place info
@@ -16,11 +16,11 @@ cut_at info rest place size end at short within =
     let left : length rest ≡ length info - place = ap length at ∙ length-drop place info in
     omega arith
 
--- the names stand behind their size
+-- the names stand after their size
 pub names_at : (info r1 r2 : List ℕ) → r1 ≡ drop 28 info → r2 ≡ drop 4 r1 → r2 ≡ drop 32 info
 names_at info r1 r2 at-1 at-2 = behind_one info r1 r2 28 4 at-1 at-2
 
--- and the table behind them
+-- and the table after them
 pub table_at : (info r1 r2 r3 : List ℕ) (size : ℕ) → r1 ≡ drop 28 info → size ≡ number r1 → r2 ≡ drop 4 r1
     → r3 ≡ drop size r2 → r3 ≡ drop (table_place info) info
 table_at info r1 r2 r3 size at-1 is at-2 at-3 =
@@ -33,7 +33,7 @@ pub names_are : (info r1 r2 taken : List ℕ) (size : ℕ) → r1 ≡ drop 28 in
 names_are info r1 r2 taken size at-1 is at-2 front =
     front ∙ ap (take size) (names_at info r1 r2 at-1 at-2) ∙ ap (λ n. take n (drop 32 info)) (is ∙ ap number at-1)
 
--- the bits stand behind two numbers of the table
+-- the bits stand after two numbers of the table
 pub present_at : (info r3 r4 r5 : List ℕ) → r3 ≡ drop (table_place info) info → r4 ≡ drop 4 r3 → r5 ≡ drop 4 r4
     → r5 ≡ drop (present_place info) info
 present_at info r3 r4 r5 at-3 at-4 at-5 =
@@ -41,7 +41,7 @@ present_at info r3 r4 r5 at-3 at-4 at-5 =
     behind_one info r4 r5 (table_place info + 4) 4 (behind_one info r3 r4 (table_place info) 4 at-3 at-4) at-5
     ∙ ap (λ n. drop n info) sum
 
--- what stands behind a set of bits
+-- what stands after a set of bits
 pub bits_at : (info rest behind : List ℕ) (place : ℕ) → rest ≡ drop place info → behind ≡ drop (bits_size rest) rest
     → behind ≡ drop (place + bits_size (drop place info)) info
 bits_at info rest behind place at passed =

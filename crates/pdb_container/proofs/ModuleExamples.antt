@@ -6,9 +6,9 @@ use Rattle.pdb_records.specs.declared.symbols.Symbol.{Symbol}
 use Rattle.pdb_records.specs.declared.symbols.SymbolData.TheVariants.{Other, Procedure, Thunk}
 use Rattle.pdb_msf.specs.declared.faults.TheConstants.{CUT, UNKNOWN_VERSION}
 use Rattle.pdb_msf.specs.ItemLists.{all_items}
-use Rattle.pdb_codeview.specs.Lines.{line_rows}
-use Rattle.pdb_dbi.specs.declared.module_list.ModuleStream.{ModuleStream}
-use Rattle.pdb_container.specs.Modules.{module_in}
+use Rattle.pdb_codeview.specs.LineSubsections.{line_rows}
+use Rattle.pdb_dbi.specs.declared.module_substream.ModuleStream.{ModuleStream}
+use Rattle.pdb_container.specs.ModuleStreams.{module_in}
 
 -- a number below 256, as two bytes and as four
 abbrev short : ℕ → List ℕ
@@ -56,7 +56,7 @@ abbrev stream : List ℕ
 stream = symbol_bytes ++ small 255 ++ file_bytes ++ line_bytes ++ inlinee_bytes
 
 abbrev place : ModuleStream
-place = record { stream = 5; symbols = 80; old_lines = 4; lines = 88 }
+place = record { stream = 5; symbols = 80; c11_lines = 4; lines = 88 }
 
 -- the three symbols
 abbrev symbols : Read Symbol
@@ -102,7 +102,7 @@ whole_module : module_in place stream ≡ record {
 unfolding module_in all_items line_rows
 whole_module = refl
 
--- the stream ends in the second subsection: nothing behind it is known, and the lines aren't either
+-- the stream ends in the second subsection: nothing after it is known, and the lines aren't either
 cut_module : module_in place (take 120 stream) ≡ record {
   symbols = symbols;
   line_program = Err CUT;

@@ -1,7 +1,7 @@
 -- How many modules there are.
 use Rattle.std.proofs.Common.{◌≡◌, ℕ, suc, List, [], ◌∷◌, length, refl, ap}
 use Rattle.pdb_msf.specs.Msf.{Msf}
-use Rattle.pdb_dbi.specs.declared.module_list.ModuleStream.{ModuleStream}
+use Rattle.pdb_dbi.specs.declared.module_substream.ModuleStream.{ModuleStream}
 use Rattle.pdb_container.specs.ModulePlaces.{left_behind, module_places, places_within}
 
 -- each module has a place

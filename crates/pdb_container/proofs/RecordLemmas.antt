@@ -11,11 +11,11 @@ use Rattle.pdb_records.specs.declared.types.ItemInformation.{ItemInformation}
 use Rattle.pdb_msf.specs.Msf.{Msf, stream_of}
 use Rattle.pdb_msf.specs.StreamBlocks.{BlockList, said_in, stream_in}
 use Rattle.pdb_tpi.proofs.SaidLemmas.{of_said}
-use Rattle.pdb_tpi.specs.Ids.{ids, ids_of, no_ids}
-use Rattle.pdb_tpi.specs.Items.{stream_items}
+use Rattle.pdb_tpi.specs.IdLeaves.{ids, ids_of, no_ids}
+use Rattle.pdb_tpi.specs.ItemStreams.{stream_items}
 use Rattle.pdb_container.specs.DebugRecords.{tabled}
 use Rattle.pdb_container.specs.Info.{features}
-use Rattle.pdb_container.specs.Records.{table_of}
+use Rattle.pdb_container.specs.PdbFile.{table_of}
 use Rattle.pdb_container.specs.TypeRecords.{id_information, ids_in}
 
 -- a table is one of its symbols

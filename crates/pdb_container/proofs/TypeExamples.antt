@@ -9,10 +9,10 @@ use Rattle.pdb_msf.specs.declared.faults.TheConstants.{CUT}
 use Rattle.pdb_msf.specs.Msf.{Msf, numbers_place, size_of, stream_of}
 use Rattle.pdb_msf.specs.NumberLists.{listed}
 use Rattle.pdb_msf.specs.Streams.{stream_inside}
-use Rattle.pdb_tpi.specs.Header.{type_header}
-use Rattle.pdb_tpi.specs.Ids.{id_data, no_ids, string}
+use Rattle.pdb_tpi.specs.TypeStreamHeader.{type_header}
+use Rattle.pdb_tpi.specs.IdLeaves.{id_data, no_ids, string}
 use Rattle.pdb_tpi.specs.Primitives.{primitives}
-use Rattle.pdb_tpi.specs.Types.{modifier, type_data}
+use Rattle.pdb_tpi.specs.TypeLeaves.{modifier, type_data}
 use Rattle.pdb_container.specs.Info.{features_in}
 use Rattle.pdb_container.specs.TypeRecords.{id_information, type_information}
 
@@ -23,7 +23,7 @@ short number = number ∷ 0 ∷ []
 abbrev small : ℕ → List ℕ
 small number = number ∷ 0 ∷ 0 ∷ 0 ∷ []
 
--- a block of 512 bytes that begins with these, with zeros behind them
+-- a block of 512 bytes that begins with these, with zeros after them
 abbrev block_of : List ℕ → List ℕ
 block_of bytes = take 512 (bytes ++ replicate 512 0)
 

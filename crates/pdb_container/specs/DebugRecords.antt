@@ -8,19 +8,19 @@ use Rattle.pdb_records.specs.declared.symbols.SymbolTable.{SymbolTable}
 use Rattle.pdb_records.specs.declared.addresses.AddressRange.{AddressRange}
 use Rattle.pdb_records.specs.declared.addresses.ImageSectionHeader.{ImageSectionHeader}
 use Rattle.pdb_records.specs.declared.debug_information.DebugInformation.{DebugInformation}
-use Rattle.pdb_msf.specs.declared.container_fault.ContainerFault.{ContainerFault}
+use Rattle.pdb_msf.specs.declared.container_error.ContainerError.{ContainerError}
 use Rattle.pdb_msf.specs.declared.faults.TheConstants.{NO_STREAM, REARRANGED}
 use Rattle.pdb_msf.specs.Faults.{◌>>=◌}
 use Rattle.pdb_msf.specs.Msf.{Msf, container, size_of, stream_of}
-use Rattle.pdb_codeview.specs.Symbols.{global_symbols as symbols_of}
-use Rattle.pdb_dbi.specs.declared.header.DebugHeader.{DebugHeader}
-use Rattle.pdb_dbi.specs.declared.module_list.ModuleStream.{ModuleStream}
-use Rattle.pdb_dbi.specs.Contributions.{contributions}
-use Rattle.pdb_dbi.specs.Header.{header}
-use Rattle.pdb_dbi.specs.ModuleList.{module_streams, modules}
+use Rattle.pdb_codeview.specs.SymbolContents.{global_symbols as symbols_of}
+use Rattle.pdb_dbi.specs.declared.debug_header.DebugHeader.{DebugHeader}
+use Rattle.pdb_dbi.specs.declared.module_substream.ModuleStream.{ModuleStream}
+use Rattle.pdb_dbi.specs.ContributionSubstream.{contributions}
+use Rattle.pdb_dbi.specs.DebugHeader.{header}
+use Rattle.pdb_dbi.specs.ModuleSubstream.{module_streams, modules}
 use Rattle.pdb_dbi.specs.OptionalStreams.{optional_stream}
 use Rattle.pdb_dbi.specs.PublishedNumbers.{sn_nil}
-use Rattle.pdb_dbi.specs.Sections.{loaded_at, section_headers}
+use Rattle.pdb_dbi.specs.SectionHeaders.{loaded_at, section_headers}
 use Rattle.pdb_container.specs.ModulePlaces.{ModuleOrFault, modules_read}
 use Rattle.pdb_container.specs.UnnamedCode.{named_modules}
 
@@ -37,7 +37,7 @@ debug_stream msf = if is_no_size (size_of msf 3) then Err NO_STREAM else stream_
 unfoldable pub debug_header : Msf → Result DebugHeader StreamError
 debug_header msf = debug_stream msf >>= header
 
--- what the substreams behind a header say: the machine, the modules, and which bytes came from which module
+-- what the substreams after a header say: the machine, the modules, and which bytes came from which module
 abbrev pub information_of : DebugHeader → DebugInformation
 information_of front = record {
   machine_type = Ok front.machine_type;
@@ -76,8 +76,8 @@ address_map_of msf front =
     (sections_of msf front >>= addresses_of)
 
 -- the symbols of the whole program, in the stream of this number, if that is one
-unfoldable pub symbols_in : Msf → ℕ → Result (Read Symbol) StreamError
-symbols_in msf number = if number == sn_nil then Err NO_STREAM else (do
+unfoldable pub symbol_stream : Msf → ℕ → Result (Read Symbol) StreamError
+symbol_stream msf number = if number == sn_nil then Err NO_STREAM else (do
   stream ← stream_of msf number
   Ok (symbols_of stream))
 
@@ -100,7 +100,7 @@ address_map msf = debug_header msf >>= address_map_of msf
 
 -- the symbols of a container's whole program: SymRecordStream of the header is the number of their stream
 unfoldable pub global_symbols : Msf → Result (Read Symbol) StreamError
-global_symbols msf = debug_header msf >>= λ front. symbols_in msf front.global_symbols
+global_symbols msf = debug_header msf >>= λ front. symbol_stream msf front.global_symbols
 
 -- what the modules of a header say of where their records stand, nothing where there is no header
 abbrev pub streams_by : Result DebugHeader StreamError → List ModuleStream
@@ -117,5 +117,5 @@ module_infos msf =
     named_modules (length msf.file) (global_symbols msf) (modules_read msf (streams_of_modules msf))
 
 -- a part of a file's records: that of the container which the file is, or why it is none
-abbrev pub of_file : {A : Type 0} → (Msf → A) → List ℕ → Result A ContainerFault
+abbrev pub of_file : {A : Type 0} → (Msf → A) → List ℕ → Result A ContainerError
 of_file part file = container file >>= λ msf. Ok (part msf)

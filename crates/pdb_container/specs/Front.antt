@@ -3,8 +3,8 @@ use Rattle.std.specs.Prelude.{◌≡◌}
 use Rattle.pdb_records.specs.Records.{Records}
 use Rattle.pdb_msf.specs.Msf.{Msf}
 use Rattle.pdb_container.specs.DebugRecords.{address_map, debug_information, global_symbols, sections}
-use Rattle.pdb_container.specs.Records.{table_of}
-use Rattle.pdb_container.specs.Strings.{string_table}
+use Rattle.pdb_container.specs.PdbFile.{table_of}
+use Rattle.pdb_container.specs.NameStream.{string_table}
 
 -- records have what a container says beside its types, its ids and what is known of its modules
 abbrev pub HasFront : Msf → Records → Type 0

@@ -1,12 +1,12 @@
 -- Which build a PDB file is of.
 use Rattle.std.specs.Prelude.{Option, Some, None, option_map, option_and_then}
 use Rattle.std.specs.Result.{result_ok}
-use Rattle.pdb_identity.specs.declared.info_front.InfoFront.{InfoFront}
-use Rattle.pdb_identity.specs.InfoFront.{info_front}
+use Rattle.pdb_identity.specs.declared.info_header.InfoHeader.{InfoHeader}
+use Rattle.pdb_identity.specs.InfoHeader.{info_header}
 use Rattle.pdb_msf.specs.Faults.{◌>>=◌}
 use Rattle.pdb_msf.specs.Msf.{Msf, stream_of}
-use Rattle.pdb_dbi.specs.declared.header.DebugHeader.{DebugHeader}
-use Rattle.pdb_dbi.specs.Header.{header}
+use Rattle.pdb_dbi.specs.declared.debug_header.DebugHeader.{DebugHeader}
+use Rattle.pdb_dbi.specs.DebugHeader.{header}
 use Rattle.pdb_container.specs.declared.identity.DebugBuild.{DebugBuild}
 use Rattle.pdb_container.specs.declared.identity.PdbIdentity.{PdbIdentity}
 
@@ -19,7 +19,7 @@ unfoldable pub debug_build : Msf → Option DebugBuild
 debug_build msf = option_map build_of (result_ok (stream_of msf 3 >>= header))
 
 -- the identity by what the info stream begins with: the age is that of the debug information, where there is one
-abbrev pub identity_by : Option DebugBuild → InfoFront → PdbIdentity
+abbrev pub identity_by : Option DebugBuild → InfoHeader → PdbIdentity
 identity_by None front = record {
   debug_id = record { guid = front.guid; age = front.age };
   time_stamp = front.time_stamp;
@@ -33,4 +33,4 @@ identity_by (Some build) front = record {
 
 -- which build a container is of, where it has the info stream, with the number 1, as far as the GUID
 unfoldable pub identity : Msf → Option PdbIdentity
-identity msf = option_map (identity_by (debug_build msf)) (option_and_then info_front (result_ok (stream_of msf 1)))
+identity msf = option_map (identity_by (debug_build msf)) (option_and_then info_header (result_ok (stream_of msf 1)))

@@ -27,7 +27,7 @@ abbrev pub version : Info → ℕ
 version (Ok info) = if nat_lt (length info) 4 then 0 else number info
 version (Err fault) = 0
 
--- how many bytes the names of streams have together: the number at 28, behind Version, Signature, Age and Guid
+-- how many bytes the names of streams have together: the number at 28, after Version, Signature, Age and Guid
 abbrev pub names_size : List ℕ → ℕ
 names_size info = number (drop 28 info)
 
@@ -35,7 +35,7 @@ names_size info = number (drop 28 info)
 abbrev pub names : List ℕ → List ℕ
 names info = take (names_size info) (drop 32 info)
 
--- the table of streams stands behind the names
+-- the table of streams stands after the names
 abbrev pub table_place : List ℕ → ℕ
 table_place info = 32 + names_size info
 
@@ -47,19 +47,19 @@ table_size info = number (drop (table_place info) info)
 abbrev pub bits_size : List ℕ → ℕ
 bits_size bytes = 4 + 4 * number bytes
 
--- the bits of slots that are in use stand behind Size and Capacity
+-- the bits of slots that are in use stand after Size and Capacity
 abbrev pub present_place : List ℕ → ℕ
 present_place info = table_place info + 8
 
--- the bits of slots that were given up stand behind those in use
+-- the bits of slots that were given up stand after those in use
 abbrev pub deleted_place : List ℕ → ℕ
 deleted_place info = present_place info + bits_size (drop (present_place info) info)
 
--- the table's pairs stand behind both sets of bits
+-- the table's pairs stand after both sets of bits
 abbrev pub pairs_place : List ℕ → ℕ
 pairs_place info = deleted_place info + bits_size (drop (deleted_place info) info)
 
--- the list of features stands behind the pairs, which have eight bytes each
+-- the list of features stands after the pairs, which have eight bytes each
 abbrev pub features_place : List ℕ → ℕ
 features_place info = pairs_place info + 8 * table_size info
 
@@ -78,7 +78,7 @@ pairs zero bytes = nothing_read None
 pairs (suc count) bytes =
     if nat_lt (length bytes) 8 then nothing_read (Some CUT) else behind (pair bytes ∷ []) (pairs count (drop 8 bytes))
 
--- whether this name, which has its zero behind it, stands at this place among the names
+-- whether this name, which has its zero after it, stands at this place among the names
 abbrev pub stands_at : List ℕ → List ℕ → ℕ → Bool
 stands_at all name place = nat_le place (length all) && starts_with (λ a b. a == b) (drop place all) name
 
@@ -89,15 +89,15 @@ named_among all name listed =
     ok_or (option_map (λ named. named.stream) (find (λ named. stands_at all name named.name_place) listed.items))
     (unwrap_or listed.fault NO_STREAM)
 
--- the number of the stream of this name, which has its zero behind it
-unfoldable pub named_in : List ℕ → List ℕ → Result ℕ StreamError
-named_in name info =
+-- the number of the stream of this name, which has its zero after it
+unfoldable pub named_stream_number : List ℕ → List ℕ → Result ℕ StreamError
+named_stream_number name info =
     if nat_lt (length info) (pairs_place info) then Err CUT else
     named_among (names info) name (pairs (table_size info) (drop (pairs_place info) info))
 
 -- the number of the stream of this name, unless the info stream can't be read
 abbrev pub named_stream : List ℕ → Info → Result ℕ StreamError
-named_stream name info = info >>= named_in name
+named_stream name info = info >>= named_stream_number name
 
 -- a file that lists nothing has neither
 abbrev pub no_features : Features

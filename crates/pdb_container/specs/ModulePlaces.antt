@@ -8,8 +8,8 @@ use Rattle.pdb_records.specs.declared.modules.ModuleInfo.{ModuleInfo}
 use Rattle.pdb_msf.specs.declared.faults.TheConstants.{TOO_LONG}
 use Rattle.pdb_msf.specs.Faults.{◌>>=◌}
 use Rattle.pdb_msf.specs.Msf.{Msf, size_of, stream_of}
-use Rattle.pdb_dbi.specs.declared.module_list.ModuleStream.{ModuleStream}
-use Rattle.pdb_container.specs.Modules.{module_in}
+use Rattle.pdb_dbi.specs.declared.module_substream.ModuleStream.{ModuleStream}
+use Rattle.pdb_container.specs.ModuleStreams.{module_in}
 use Rattle.pdb_dbi.specs.PublishedNumbers.{sn_nil}
 
 -- where the records of a module stand, `None` of a module without records, or why they aren't read
@@ -32,7 +32,7 @@ place_within msf left place =
     if nat_lt left (bytes_read msf place.stream) then Err TOO_LONG else
     Ok (Some place)
 
--- how many bytes may still be read behind a module: a stream that isn't read takes none
+-- how many bytes may still be read after a module: a stream that isn't read takes none
 abbrev pub left_behind : Msf → ℕ → ModuleStream → ℕ
 left_behind msf left place =
     if place.stream == sn_nil then left else
@@ -64,10 +64,10 @@ module_of msf place = place >>= module_there msf
 unfoldable pub modules_read : Msf → List ModuleStream → List ModuleOrFault
 modules_read msf places = map (module_of msf) (module_places msf places)
 
--- the place of the module at a position: none behind the last one
+-- the place of the module at a position: none after the last one
 abbrev pub place_at : List PlaceOrFault → ℕ → PlaceOrFault
 place_at places position = unwrap_or (slice_get places position) (Ok None)
 
--- what is known of the module at a position, before code without a name is named: nothing behind the last one
+-- what is known of the module at a position, before code without a name is named: nothing after the last one
 unfoldable pub module_at : Msf → List ModuleStream → ℕ → ModuleOrFault
 module_at msf places position = module_of msf (place_at (module_places msf places) position)

@@ -9,8 +9,8 @@ use Rattle.pdb_records.specs.declared.types.TypeIndex.{TypeIndex}
 use Rattle.pdb_msf.specs.declared.faults.TheConstants.{NO_STREAM}
 use Rattle.pdb_msf.specs.Faults.{◌>>=◌}
 use Rattle.pdb_msf.specs.Msf.{Msf, stream_of}
-use Rattle.pdb_tpi.specs.Ids.{ids_of, no_ids}
-use Rattle.pdb_tpi.specs.Types.{types_of}
+use Rattle.pdb_tpi.specs.IdLeaves.{ids_of, no_ids}
+use Rattle.pdb_tpi.specs.TypeLeaves.{types_of}
 use Rattle.pdb_container.specs.Info.{features}
 
 -- the types of a container: those of the stream of types (TPI), which has the number 2

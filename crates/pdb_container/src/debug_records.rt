@@ -5,8 +5,8 @@ ghost use Rattle.pdb_container.specs.DebugRecords.{address_map, address_map_of, 
 ghost use Rattle.pdb_container.specs.DebugRecords.{debug_stream, global_symbols};
 ghost use Rattle.pdb_container.specs.DebugRecords.{information_of, rearranges, sections, sections_of};
 ghost use Rattle.pdb_container.specs.DebugRecords.{streams_of_modules};
-ghost use Rattle.pdb_container.specs.DebugRecords.{symbols_in, tabled};
-ghost use Rattle.pdb_dbi.specs.ModuleList.{module_streams};
+ghost use Rattle.pdb_container.specs.DebugRecords.{symbol_stream, tabled};
+ghost use Rattle.pdb_dbi.specs.ModuleSubstream.{module_streams};
 ghost use Rattle.pdb_msf.specs.Faults.{Gives};
 ghost use Rattle.pdb_msf.specs.Streams.{bytes_of};
 ghost use Rattle.pdb_records.specs.Sections.{listed};
@@ -219,13 +219,13 @@ fn is_rearranged(container: &Container<'_>, number: Option<u16>) -> bool
 }
 
 // The symbols of the whole program, in the stream of this number.
-#[tactic(auto, unfolding(crate::specs::DebugRecords::symbols_in))]
+#[tactic(auto, unfolding(crate::specs::DebugRecords::symbol_stream))]
 fn global_symbols(
     alloc: Global,
     container: &Container<'_>,
     number: u16,
 ) -> Result<SymbolTable, Fault>
-    ensures { Gives (λ table. table.symbols) result (symbols_in container.now number) }
+    ensures { Gives (λ table. table.symbols) result (symbol_stream container.now number) }
 {
     let Some(number) = stream_number(number) else {
         return Err(Fault::Broken(NO_STREAM));

@@ -11,7 +11,7 @@ ghost use Rattle.pdb_records.specs.Sections.{listed};
 use crate::debug_records::{DebugRecords, debug_records};
 use crate::info::InfoStream;
 use crate::module_places::{ModuleInfoResult, ModulePlace, module_places};
-use crate::records::read_texts;
+use crate::pdb_file::read_texts;
 use pdb_msf::faults::{Fault, part_or_fault};
 use pdb_msf::{Container, nothing_read};
 use pdb_records::{ItemInformation, PDB};

@@ -4,16 +4,16 @@ ghost use Rattle.std.specs.Prelude.{◌≡◌, ◌≤◌, IfErr, IfOk, option_ma
 ghost use Rattle.std.specs.Result.{result_ok};
 ghost use Rattle.pdb_container.specs.DebugRecords.{of_file};
 ghost use Rattle.pdb_container.specs.Identity.{build_of, debug_build, identity, identity_by};
-ghost use Rattle.pdb_dbi.specs.Header.{header};
+ghost use Rattle.pdb_dbi.specs.DebugHeader.{header};
 ghost use Rattle.pdb_msf.specs.Faults.{Opens};
-ghost use Rattle.pdb_msf.specs.StreamMap.{IfFile, Reads, with_bytes};
+ghost use Rattle.pdb_msf.specs.MsfLayout.{IfFile, Reads, with_bytes};
 
 use crate::debug_records::DEBUG;
 use crate::info::INFO;
 use pdb_dbi::read_header;
-use pdb_identity::{DebugId, InfoFront, Machine};
+use pdb_identity::{DebugId, InfoHeader, Machine};
 use pdb_msf::faults::{Fault, part_or_fault};
-use pdb_msf::{Container, ContainerFault, Excerpt, OpenFault, Source, SourceFault, StreamMap};
+use pdb_msf::{Container, ContainerError, MsfLayout, OpenError, Source, SourceError, StreamSubset};
 use std::alloc::Global;
 
 /// What says which build a PDB file is of.
@@ -27,7 +27,7 @@ pub struct PdbIdentity {
 }
 
 /// Which build a PDB file is of. Nothing where its info stream can't be read as far as the GUID.
-pub fn read_identity(alloc: Global, bytes: &[u8]) -> Result<Option<PdbIdentity>, ContainerFault>
+pub fn read_identity(alloc: Global, bytes: &[u8]) -> Result<Option<PdbIdentity>, ContainerError>
     ensures { Opens (λ found. found) result (of_file identity bytes.now) }
 {
     let container = Container::open(alloc, bytes)?;
@@ -35,31 +35,31 @@ pub fn read_identity(alloc: Global, bytes: &[u8]) -> Result<Option<PdbIdentity>,
 }
 
 /// Which build a PDB file of this length is of that is read range by range. The errors are those of
-/// [`StreamMap::read`](crate::StreamMap::read).
+/// [`MsfLayout::read`](crate::StreamMap::read).
 pub fn read_identity_of<S: Source>(
     alloc: Global,
     source: &mut S,
     file_length: usize,
-) -> Result<Option<PdbIdentity>, OpenFault>
+) -> Result<Option<PdbIdentity>, OpenError>
     ensures answer { IfFile (S.bytes source.old) file_length (λ file.
         Reads (λ found. found) result (of_file identity file)) }
-    ensures refused { IfErr result (λ fault. fault ≡ OpenFault.Unreadable → S.refuses_from source.old ≤ file_length) }
+    ensures refused { IfErr result (λ fault. fault ≡ OpenError.Unreadable → S.refuses_from source.old ≤ file_length) }
     ensures inputs { S.bytes source.new ≡ S.bytes source.old }
     ensures refusals { S.refuses_from source.new ≡ S.refuses_from source.old }
 {
-    let map = StreamMap::read(alloc, source, file_length)?;
+    let map = MsfLayout::read(alloc, source, file_length)?;
     Ok(load_identity(alloc, &map, source)?)
 }
 
 #[tactic(auto, unfolding(crate::specs::Identity::identity, crate::specs::Identity::debug_build))]
 fn load_identity<S: Source>(
     alloc: Global,
-    map: &StreamMap,
+    map: &MsfLayout,
     source: &mut S,
-) -> Result<Option<PdbIdentity>, SourceFault>
+) -> Result<Option<PdbIdentity>, SourceError>
     ensures answer { IfOk result (λ found. IfFile (S.bytes source.old) map.now.file_length (λ file.
         found ≡ identity (with_bytes file map.now))) }
-    ensures refused { IfErr result (λ fault. fault ≡ SourceFault.Unreadable
+    ensures refused { IfErr result (λ fault. fault ≡ SourceError.Unreadable
         → S.refuses_from source.old ≤ map.now.file_length) }
     ensures inputs { S.bytes source.new ≡ S.bytes source.old }
     ensures refusals { S.refuses_from source.new ≡ S.refuses_from source.old }
@@ -67,7 +67,7 @@ fn load_identity<S: Source>(
     let Ok(info) = map.load(alloc, source, INFO)? else {
         return Ok(None);
     };
-    let Some(front) = InfoFront::read(&info) else {
+    let Some(front) = InfoHeader::read(&info) else {
         return Ok(None);
     };
     match map.load(alloc, source, DEBUG)? {
@@ -84,7 +84,7 @@ fn identity_in(alloc: Global, container: &Container<'_>) -> Result<Option<PdbIde
     let Ok(info) = part_or_fault(container.stream(alloc, INFO))? else {
         return Ok(None);
     };
-    let Some(front) = InfoFront::read(info.as_slice()) else {
+    let Some(front) = InfoHeader::read(info.as_slice()) else {
         return Ok(None);
     };
     let build = debug_build(alloc, container)?;
@@ -92,7 +92,7 @@ fn identity_in(alloc: Global, container: &Container<'_>) -> Result<Option<PdbIde
 }
 
 // The identity by what the info stream begins with, and what the debug information says.
-fn identity_by(build: Option<DebugBuild>, front: InfoFront) -> PdbIdentity
+fn identity_by(build: Option<DebugBuild>, front: InfoHeader) -> PdbIdentity
     ensures { result ≡ identity_by build front }
 {
     PdbIdentity {

@@ -2,7 +2,7 @@
 
 ghost use Rattle.std.specs.Prelude.{◌≡◌, ◌≤◌, ◌<◌, ◌==◌, ◌||◌, drop, length, IfErr, IfOk, OnErr, OnOk};
 ghost use Rattle.pdb_container.specs.Info.{all_numbers, bits_size, features, features_by, features_in};
-ghost use Rattle.pdb_container.specs.Info.{features_place, named_in, named_stream, names, pairs_place};
+ghost use Rattle.pdb_container.specs.Info.{features_place, named_stream_number, named_stream, names, pairs_place};
 ghost use Rattle.pdb_container.specs.Info.{stands_at, table_size, version};
 ghost use Rattle.pdb_msf.specs.Msf.{stream_of};
 ghost use Rattle.pdb_msf.specs.declared.faults.TheConstants.{CUT};
@@ -79,7 +79,7 @@ impl<'a> InfoStream<'a> {
         }
     }
 
-    /// The number of the stream of this name, which is given with the zero behind it.
+    /// The number of the stream of this name, which is given with the zero after it.
     pub fn named_stream(&self, name: &[u8]) -> Result<u32, StreamError>
         ensures { result ≡ named_stream name.now self.now }
     {
@@ -102,7 +102,7 @@ impl<'a> InfoStream<'a> {
 
 // The number of the stream of this name in these bytes.
 fn number_of_name(info: &[u8], name: &[u8]) -> Result<u32, StreamError>
-    ensures { result ≡ named_in name.now info.now }
+    ensures { result ≡ named_stream_number name.now info.now }
 {
     let mut bytes = Bytes::new(info);
     let (names, count) = take_table_front(&mut bytes)?;

@@ -7,23 +7,23 @@
 
 mod debug_records;
 mod front;
-mod functions;
+mod functions_by_start;
 mod identity;
 mod info;
 mod module_infos;
 mod module_places;
-mod modules;
+mod module_streams;
+mod name_stream;
 pub mod parts;
-mod records;
-mod refusals;
-mod strings;
+mod pdb_file;
+mod pdb_file_error;
 mod unnamed_code;
 
 pub use identity::{PdbIdentity, read_identity, read_identity_of};
+pub use pdb_file::{PdbFile, read_pdb, read_pdb_file};
+pub use pdb_file_error::PdbFileError;
 pub use pdb_identity::{CompactDebugId, DebugId, Machine};
 pub use pdb_msf::{
-    Container, ContainerFault, Excerpt, OpenFault, Source, SourceFault, StreamMap, Unreadable,
+    Container, ContainerError, MsfLayout, OpenError, RangeError, Source, SourceError, StreamSubset,
     faults, other_file,
 };
-pub use records::{PdbFile, read_pdb, read_pdb_file};
-pub use refusals::Refusal;

@@ -3,9 +3,9 @@
 ghost use Rattle.std.specs.Prelude.{◌≡◌, Some, Ok, IfErr, IfOk};
 ghost use Rattle.pdb_msf.specs.Faults.{Gives};
 ghost use Rattle.pdb_container.specs.ModulePlaces.{left_behind, module_of, place_within, places_within};
-ghost use Rattle.pdb_container.specs.Modules.{module_in};
+ghost use Rattle.pdb_container.specs.ModuleStreams.{module_in};
 
-use crate::modules::read_module;
+use crate::module_streams::read_module;
 use pdb_dbi::{ModuleStream, stream_number};
 use pdb_msf::Container;
 use pdb_msf::faults::{Fault, TOO_LONG, part_or_fault};

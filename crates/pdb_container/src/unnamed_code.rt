@@ -1,7 +1,7 @@
 //! Code without a name of its own, chunks and jumps: it becomes procedures that go by their function's name.
 //!
 //! Further chunks of a function and the jumps of incremental links: each jump, and each chunk that the list has
-//! elsewhere than behind its function, becomes such a procedure.
+//! elsewhere than after its function, becomes such a procedure.
 
 ghost use Rattle.std.specs.Prelude.{◌≡◌, ◌++◌, ◌==◌, not, ℕ, List, None, length, IfErr, IfOk, OnOk};
 ghost use Rattle.std.specs.BTreeMap.{get};
@@ -11,12 +11,12 @@ ghost use Rattle.pdb_records.specs.declared.symbols.Symbol.{Symbol};
 ghost use Rattle.pdb_codeview.specs.Places.{place};
 ghost use Rattle.pdb_codeview.specs.ProcedureSpans.{span_of};
 ghost use Rattle.pdb_container.specs.DebugRecords.{tabled};
-ghost use Rattle.pdb_container.specs.Functions.{any_function, function_at, seen, symbols_of};
-ghost use Rattle.pdb_container.specs.UnnamedCode.{apart, apart_from, changed_at, code_apart, code_from, code_of_module};
-ghost use Rattle.pdb_container.specs.UnnamedCode.{named, named_in, named_module, named_modules, named_symbol, namings};
+ghost use Rattle.pdb_container.specs.FunctionsByStart.{any_function, function_at, seen, symbols_of};
+ghost use Rattle.pdb_container.specs.UnnamedCode.{separated, separated_from, changed_at, separated_code, code_from, code_of_module};
+ghost use Rattle.pdb_container.specs.UnnamedCode.{named, with_procedure, named_module, named_modules, named_symbol, renamed_symbols};
 ghost use Rattle.pdb_container.specs.UnnamedCode.{own_function, procedure_of, start_or};
 
-use crate::functions::{Functions, NamedFunction, all_functions, functions_of};
+use crate::functions_by_start::{Functions, NamedFunction, all_functions, functions_of};
 use crate::module_places::ModuleInfoResult;
 use pdb_codeview::{S_TRAMPOLINE, place, span_of};
 use pdb_msf::copy_name;
@@ -30,17 +30,17 @@ use std::marker::Model;
 
 /// Code of a module that has no name.
 #[derive(Drop)]
-struct ApartCode<'m> {
+struct SeparatedChunk<'m> {
     /// The position of its symbol.
     position: usize,
     raw_kind: u16,
     code: &'m SeparatedCodeSymbol,
 }
 
-impl<'m> Model for ApartCode<'m> {
-    ghost use Rattle.pdb_container.specs.UnnamedCode.{CodeApart};
+impl<'m> Model for SeparatedChunk<'m> {
+    ghost use Rattle.pdb_container.specs.UnnamedCode.{Chunk};
 
-    ghost Value = { CodeApart };
+    ghost Value = { Chunk };
 
     ghost view = { λ c. record { position = c.position; raw_kind = c.raw_kind; code = c.code.now } };
 }
@@ -56,7 +56,7 @@ struct UnnamedCode<'m> {
 }
 
 impl<'m> Model for UnnamedCode<'m> {
-    ghost use Rattle.pdb_container.specs.Functions.{seen};
+    ghost use Rattle.pdb_container.specs.FunctionsByStart.{seen};
     ghost use Rattle.pdb_container.specs.UnnamedCode.{CodeOfModule};
 
     ghost Value = { CodeOfModule };
@@ -71,7 +71,7 @@ impl<'m> Model for UnnamedCode<'m> {
 
 /// What becomes of a symbol.
 #[derive(Drop)]
-struct Naming {
+struct RenamedSymbol {
     module_index: usize,
     position: usize,
     procedure: ProcedureSymbol,
@@ -89,22 +89,22 @@ pub fn name_unnamed_code(
     ensures state { OnOk result (modules.new ≡ named_modules room (tabled global_symbols.now) modules.old) }
     ensures memory { IfErr result (λ fault. fault ≡ Fault.OutOfMemory) }
 {
-    let namings = list_namings(alloc, modules, global_symbols, room)?;
-    for naming in namings {
-        name_code(modules, naming);
+    let renamed_symbols = list_renamed_symbols(alloc, modules, global_symbols, room)?;
+    for renamed_symbol in renamed_symbols {
+        name_code(modules, renamed_symbol);
     }
     Ok(())
 }
 
 // What becomes of the symbols of code without a name.
-fn list_namings(
+fn list_renamed_symbols(
     alloc: Global,
     modules: &[ModuleInfoResult],
     global_symbols: &Result<SymbolTable, StreamError>,
     room: usize,
-) -> Result<Vec<Naming>, Fault>
+) -> Result<Vec<RenamedSymbol>, Fault>
     ensures answer { IfOk result (λ list. list.items
-        ≡ namings (any_function modules.now (tabled global_symbols.now)) room (code_from 0 modules.now)) }
+        ≡ renamed_symbols (any_function modules.now (tabled global_symbols.now)) room (code_from 0 modules.now)) }
     ensures memory { IfErr result (λ fault. fault ≡ Fault.OutOfMemory) }
 {
     let codes = list_unnamed_code(alloc, modules)?;
@@ -112,7 +112,7 @@ fn list_namings(
         return Ok(Vec::new(alloc));
     }
     let functions = all_functions(alloc, modules, global_symbols)?;
-    namings_of(alloc, &codes, &functions, room)
+    renamed_symbols_of(alloc, &codes, &functions, room)
 }
 
 // The code without a name of all modules.
@@ -148,12 +148,12 @@ fn push_unnamed_code<'m>(
 ) -> Result<(), AllocError>
     ensures { OnOk result (codes.new.items ≡ codes.old.items ++ code_of_module module_index symbols.now) }
 {
-    let apart = list_apart_code(alloc, symbols)?;
-    if apart.is_empty() {
+    let separated = list_separated_code(alloc, symbols)?;
+    if separated.is_empty() {
         return Ok(());
     }
     let functions = functions_of(alloc, symbols)?;
-    for code in &apart {
+    for code in &separated {
         codes.push(UnnamedCode {
             module_index,
             position: code.position,
@@ -182,24 +182,24 @@ fn own_function<'m>(
 
 /// Whether a module's symbols have code without a name, whose function other modules may list.
 pub fn has_unnamed_code(alloc: Global, symbols: &[Symbol]) -> Result<bool, AllocError>
-    ensures { IfOk result (λ has. has ≡ not (length (apart_from 0 None symbols.now) == 0)) }
+    ensures { IfOk result (λ has. has ≡ not (length (separated_from 0 None symbols.now) == 0)) }
 {
-    let apart = list_apart_code(alloc, symbols)?;
-    Ok(!apart.is_empty())
+    let separated = list_separated_code(alloc, symbols)?;
+    Ok(!separated.is_empty())
 }
 
 // The code of a module's symbols that stands apart from its function.
-fn list_apart_code<'m>(
+fn list_separated_code<'m>(
     alloc: Global,
     symbols: &'m [Symbol],
-) -> Result<Vec<ApartCode<'m>>, AllocError>
-    ensures { IfOk result (λ apart. apart.items ≡ apart_from 0 None symbols.now) }
+) -> Result<Vec<SeparatedChunk<'m>>, AllocError>
+    ensures { IfOk result (λ separated. separated.items ≡ separated_from 0 None symbols.now) }
 {
-    let mut apart = Vec::new(alloc);
+    let mut separated = Vec::new(alloc);
     let mut before = None;
     for (position, symbol) in symbols.iter().enumerate() {
-        if let Some(code) = code_apart(symbol.raw_kind, before, &symbol.content) {
-            apart.push(ApartCode {
+        if let Some(code) = separated_code(symbol.raw_kind, before, &symbol.content) {
+            separated.push(SeparatedChunk {
                 position,
                 raw_kind: symbol.raw_kind,
                 code,
@@ -207,16 +207,16 @@ fn list_apart_code<'m>(
         }
         before = start_or(before, &symbol.content);
     }
-    Ok(apart)
+    Ok(separated)
 }
 
-// The code of a symbol, where it stands elsewhere than behind the code that starts where its function does.
-fn code_apart(
+// The code of a symbol, where it stands elsewhere than after the code that starts where its function does.
+fn separated_code(
     raw_kind: u16,
     before: Option<u64>,
     content: &Option<SymbolData>,
 ) -> Option<&SeparatedCodeSymbol>
-    ensures { option_copied result ≡ code_apart raw_kind before content.now }
+    ensures { option_copied result ≡ separated_code raw_kind before content.now }
 {
     match content {
         Some(SymbolData::SeparatedCode(code)) => {
@@ -242,14 +242,14 @@ fn start_or(before: Option<u64>, content: &Option<SymbolData>) -> Option<u64>
 }
 
 // What becomes of the symbols of code, where names may take so many bytes.
-fn namings_of<'m>(
+fn renamed_symbols_of<'m>(
     alloc: Global,
     codes: &[UnnamedCode<'m>],
     functions: &Functions<'m>,
     room: usize,
-) -> Result<Vec<Naming>, Fault>
+) -> Result<Vec<RenamedSymbol>, Fault>
     ensures answer { IfOk result (λ list.
-        list.items ≡ namings (λ asked. seen (get nat_cmp functions.now asked)) room codes.now) }
+        list.items ≡ renamed_symbols (λ asked. seen (get nat_cmp functions.now asked)) room codes.now) }
     ensures memory { IfErr result (λ fault. fault ≡ Fault.OutOfMemory) }
 {
     let mut list = Vec::new(alloc);
@@ -261,7 +261,7 @@ fn namings_of<'m>(
         let name = function.name;
         if name.0.len() <= left {
             left -= name.0.len();
-            list.push(Naming {
+            list.push(RenamedSymbol {
                 module_index: code.module_index,
                 position: code.position,
                 procedure: procedure_of(alloc, code.code, name, function.type_index)?,
@@ -301,12 +301,16 @@ fn procedure_of(
 }
 
 // Puts a procedure in the place of a symbol.
-fn name_code(modules: &mut [ModuleInfoResult], naming: Naming)
-    ensures { modules.new ≡ named modules.old naming }
+fn name_code(modules: &mut [ModuleInfoResult], renamed_symbol: RenamedSymbol)
+    ensures { modules.new ≡ named modules.old renamed_symbol }
 {
-    let index = naming.module_index;
+    let index = renamed_symbol.module_index;
     if index < modules.len() {
-        name_in_module(&mut modules[index], naming.position, naming.procedure);
+        name_in_module(
+            &mut modules[index],
+            renamed_symbol.position,
+            renamed_symbol.procedure,
+        );
     }
 }
 
@@ -319,7 +323,7 @@ fn name_in_module(read: &mut ModuleInfoResult, position: usize, procedure: Proce
 }
 
 fn name_in(info: &mut ModuleInfo, position: usize, procedure: ProcedureSymbol)
-    ensures { info.new ≡ named_in position procedure info.old }
+    ensures { info.new ≡ with_procedure position procedure info.old }
 {
     if let Some(symbol) = info.symbols.items.get_mut(position) {
         name_symbol(symbol, procedure);

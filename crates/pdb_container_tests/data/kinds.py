@@ -63,10 +63,18 @@ PRIMITIVES = [
 ]
 
 
+# The index of `std::nullptr_t`, and that of a pointer to void
+NULL_POINTER, VOID_POINTER = 0x103, 0x603
+
+
 def primitives():
-    """What the compiler brings: each primitive, and each of the seven ways to point to it."""
-    return [{"index": mode * 256 + number, "kind": "Primitive", "primitive": name, "indirection": mode > 0}
-            for mode in range(8) for number, name in PRIMITIVES]
+    """What the compiler brings: each primitive, and each of the seven ways to point to it, of which one is a type of its
+    own."""
+    items = [{"index": mode * 256 + number, "kind": "Primitive", "primitive": name, "indirection": mode > 0}
+             for mode in range(8) for number, name in PRIMITIVES]
+    null_pointer = {"index": NULL_POINTER, "kind": "Enumeration", "name": "std::nullptr_t",
+                    "underlying_type": VOID_POINTER}
+    return [null_pointer if item["index"] == NULL_POINTER else item for item in items]
 
 
 def pointer(mode, attributes, size, const=False):
@@ -174,6 +182,13 @@ TYPES = [
     other(0x1205, "Bitfield"),
     other(0x1206, "MethodList"),
     other(0x151D, "VirtualFunctionTable"),
+    (0x000A, u16(1) + u8(5), {"kind": "Other", "kind_name": "VirtualFunctionTableShape"}),
+    (0x150A, u32(0x75) + text(b"COLORREF"),
+     {"kind": "Enumeration", "name": "COLORREF", "underlying_type": 0x75}),
+    (0x150A, u32(0x75) + b"no end", {"error": {"stream": CUT}}),
+    (0x1508, u32(0x40, 0x1234) + text(b"matrix"),
+     {"kind": "Array", "element_type": 0x40, "first": 0, "rest": []}),
+    (0x1508, u32(0x40), {"error": {"stream": CUT}}),
     (0x150B, u32(0), {"error": {"unimplemented": 0x150B}}),
     (0x1504, u16(3), {"error": {"stream": CUT}}),
 ]
@@ -239,11 +254,20 @@ def name_of(kind, name):
     return short(name) if kind < 0x1100 else text(name)
 
 
+# Kinds of procedures that the records have as others, with those: by Itanium's code and managed code
+AS_OTHERS = {0x1118: 0x110F, 0x1119: 0x1110, 0x112A: 0x1110, 0x112B: 0x110F}
+MANAGED = {0x112A, 0x112B}
+
+
 def put_procedure(symbols, kind, offset, name):
-    """A procedure of 32 bytes in section 1."""
-    content = u32(0, 0, 0, 32, 0, 0, 0x1009, offset) + u16(1) + u8(0) + name_of(kind, name)
+    """A procedure of 32 bytes in section 1. Behind its section stand flags, and in two forms the number of a register.
+    Managed code has a token in place of its type."""
+    behind = u8(0, 0x2A, 0x2A) if kind in AS_OTHERS else u8(0)
+    typed = 0x06000001 if kind in MANAGED else 0x1009
+    content = u32(0, 0, 0, 32, 0, 0, typed, offset) + u16(1) + behind + name_of(kind, name)
     symbols.put(kind, content, {"kind": "Procedure", "section": 1, "offset": offset, "len": 32, "name": shown(name),
-                                "end": 0, "type_index": 0x1009}, opens=4)
+                                "end": 0, "type_index": 0 if kind in MANAGED else 0x1009}, opens=4)
+    symbols.wanted[-1]["raw_kind"] = AS_OTHERS.get(kind, kind)
 
 
 def put_thunk(symbols, kind, offset, name):
@@ -299,7 +323,8 @@ def faulty(items, fault):
 
 PROCEDURES = [(0x100A, b"local, old"), (0x100B, b"global, old"), (0x110F, b"local"), (0x1110, b"global"),
               (0x1146, b"local by id"), (0x1147, b"global by id"), (0x1155, b"local, device"),
-              (0x1156, b"local by id, device")]
+              (0x1156, b"local by id, device"), (0x1118, b"local, Itanium"), (0x1119, b"global, Itanium"),
+              (0x112A, b"global, managed"), (0x112B, b"local, managed")]
 
 # The annotations of a site in a procedure at offset 0x100 whose inlinee starts at line 50 of the first file: the
 # kinds by their numbers, then the rows. A number below 128 is a byte; of a change of line the lowest bit is the sign.
@@ -314,8 +339,13 @@ SITES = [
      [row(0x181, 3, 0, 50), row(0x10183, 1, 0, 50)]),
     # from 0x10 behind the procedure's start on; kinds that rows don't show; 0 ends the list
     (u8(1, 0x10, 7, 1, 8, 1, 9, 2, 10, 3, 13, 1, 2, 0, 3, 2, 4, 2) + u8(0, 3, 9), [row(0x112, 2, 0, 50)]),
-    # the code goes on apart, in another section
-    (u8(3, 1, 2, 1), faulty([row(0x101, None, 0, 50)], APART)),
+    # the code goes on in the function's first chunk, on 2; and from 0x10 behind the chunk's start on
+    (u8(3, 1, 2, 1, 3, 2, 4, 3, 1, 0x10, 3, 0),
+     [row(0x101, None, 0, 50), row(0x502, 3, 0, 50), row(0x510, None, 0, 50)]),
+    # in the third one
+    (u8(2, 3, 3, 1, 4, 1), [row(0x541, 1, 0, 50)]),
+    # in a fourth one, which isn't there
+    (u8(3, 1, 2, 4), faulty([row(0x101, None, 0, 50)], APART)),
     # a kind that isn't known
     (u8(3, 1, 14, 1), faulty([row(0x101, None, 0, 50)], BAD_NUMBER)),
     # a file whose entry starts elsewhere

@@ -8,12 +8,13 @@
 
 use anyhow::Result;
 use pdb_addr2line::{Function, FunctionFrames, TypeFormatterFlags};
-use pdb_container::{PdbFile, Refusal, read_pdb_file};
+use pdb_container::parts::code_refusal;
+use pdb_container::{PdbFile, PdbFileError, read_pdb_file};
 use pdb_export::write_records;
 use pdb_json::read_records;
 use pdb_records::PDB;
 use pdb_repairs::repair_records;
-use pdb_session::{PdbSession, QuestionFault, SessionFault};
+use pdb_session::{PdbSession, QuestionError, SessionError};
 use std::alloc::Global;
 use std::rt::Files;
 use std::{env, fs, io};
@@ -55,13 +56,14 @@ fn show_file<R: Print + AllocGlobal>(rt: &R, bytes: &[u8], file: &mut PdbFile) -
     if file.names_only {
         println!(rt; "names only")?;
     }
-    let alone = match file.refusal {
-        Some(refusal) => {
-            println!(rt; "{refusal}")?;
-            Reading::Refused(refusal)
-        }
+    match file.refusal {
+        Some(refusal) => println!(rt; "{refusal}")?,
+        None => write_records(rt.alloc(), &mut io::writer(rt), &file.records, &[])?,
+    }
+    let alone = match code_refusal(&file.records) {
+        Some(refusal) => Reading::Refused(refusal),
         None => {
-            show_records(rt, file)?;
+            repair(rt, file)?;
             Reading::Records(records_text(rt.alloc(), &file.records)?)
         }
     };
@@ -71,9 +73,8 @@ fn show_file<R: Print + AllocGlobal>(rt: &R, bytes: &[u8], file: &mut PdbFile) -
     Ok(())
 }
 
-/// Writes the records, and each part that is broken and is taken out.
-fn show_records<R: Print + AllocGlobal>(rt: &R, file: &mut PdbFile) -> Result<()> {
-    write_records(rt.alloc(), &mut io::writer(rt), &file.records, &[])?;
+/// Takes out of the records what is broken, and writes each part that is.
+fn repair<R: Print + AllocGlobal>(rt: &R, file: &mut PdbFile) -> Result<()> {
     for repair in &repair_records(rt.alloc(), &mut file.records)? {
         println!(rt; "{repair:?}")?;
     }
@@ -83,7 +84,7 @@ fn show_records<R: Print + AllocGlobal>(rt: &R, file: &mut PdbFile) -> Result<()
 /// What a file has: records, as they are written, or why nothing can be answered over them.
 #[derive(PartialEq, Eq, Drop)]
 enum Reading {
-    Refused(Refusal),
+    Refused(PdbFileError),
     Records(Vec<u8>),
 }
 
@@ -104,7 +105,7 @@ fn read_by_session(alloc: Global, bytes: &[u8]) -> Result<Option<Reading>> {
             }
             _ => Ok(None),
         },
-        Err(SessionFault::Refused(refusal)) => Ok(Some(Reading::Refused(refusal))),
+        Err(SessionError::Refused(refusal)) => Ok(Some(Reading::Refused(refusal))),
         Err(_) => Ok(None),
     }
 }
@@ -131,8 +132,8 @@ fn answers_alike(session: &PdbSession<&[u8]>) -> bool {
 
 /// Whether both are of one function, or of none.
 fn is_same_function(
-    function: Result<Option<Function>, QuestionFault>,
-    frames: Result<Option<FunctionFrames<'_>>, QuestionFault>,
+    function: Result<Option<Function>, QuestionError>,
+    frames: Result<Option<FunctionFrames<'_>>, QuestionError>,
 ) -> bool {
     match (function, frames) {
         (Ok(Some(function)), Ok(Some(frames))) => {

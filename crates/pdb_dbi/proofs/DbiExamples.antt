@@ -5,12 +5,12 @@ use Rattle.pdb_records.specs.Readings.{Read}
 use Rattle.pdb_records.specs.declared.debug_information.MachineType.TheVariants as kind
 use Rattle.pdb_records.specs.declared.debug_information.SectionContribution.{SectionContribution}
 use Rattle.pdb_msf.specs.declared.faults.TheConstants.{CUT, UNKNOWN_VERSION}
-use Rattle.pdb_dbi.specs.Contributions.{contribution_list, contributions}
-use Rattle.pdb_dbi.specs.Header.{header}
-use Rattle.pdb_dbi.specs.ModuleList.{module_streams, modules}
+use Rattle.pdb_dbi.specs.ContributionSubstream.{contribution_list, contributions}
+use Rattle.pdb_dbi.specs.DebugHeader.{header}
+use Rattle.pdb_dbi.specs.ModuleSubstream.{module_streams, modules}
 use Rattle.pdb_dbi.specs.OptionalStreams.{optional_stream}
 use Rattle.pdb_msf.specs.ItemLists.{all_items}
-use Rattle.pdb_dbi.specs.Sections.{loaded_at, section_headers}
+use Rattle.pdb_dbi.specs.SectionHeaders.{loaded_at, section_headers}
 use Rattle.pdb_dbi.specs.Substreams.{SubstreamBytes}
 
 -- a number below 256, as two bytes and as four
@@ -33,7 +33,7 @@ module_front stream symbols lines =
     small 0 ++ contribution_bytes 1 0 0 0 ++ short 0 ++ short stream ++ small symbols ++ small 0 ++ small lines
     ++ short 1 ++ short 0 ++ small 0 ++ small 0 ++ small 0
 
--- two modules: one of 76 bytes, and one of 70 with two bytes behind it
+-- two modules: one of 76 bytes, and one of 70 with two bytes after it
 abbrev module_bytes : List ℕ
 module_bytes =
     module_front 12 40 8 ++ codes "a.obj" ++ 0 ∷ [] ++ codes "a.obj" ++ 0 ∷ []
@@ -43,7 +43,7 @@ module_bytes =
 abbrev v60_bytes : List ℕ
 v60_bytes = 45 ∷ 186 ∷ 46 ∷ 241 ∷ [] ++ contribution_bytes 1 16 32 0 ++ contribution_bytes 2 0 8 1
 
--- the same of the version V2, each with the section in its object file behind it
+-- the same of the version V2, each with the section in its object file after it
 abbrev v2_bytes : List ℕ
 v2_bytes =
     228 ∷ 81 ∷ 49 ∷ 241 ∷ [] ++ contribution_bytes 1 16 32 0 ++ small 3 ++ contribution_bytes 2 0 8 1 ++ small 4
@@ -92,8 +92,8 @@ unfolding all_items
 two_modules = refl
 
 two_streams : module_streams (whole_bytes module_bytes) ≡
-    record { stream = 12; symbols = 40; old_lines = 0; lines = 8 }
-    ∷ record { stream = 13; symbols = 44; old_lines = 0; lines = 0 } ∷ []
+    record { stream = 12; symbols = 40; c11_lines = 0; lines = 8 }
+    ∷ record { stream = 13; symbols = 44; c11_lines = 0; lines = 0 } ∷ []
 unfolding all_items
 two_streams = refl
 
@@ -134,7 +134,7 @@ no_version : contributions (whole_bytes (small 1 ++ contribution_bytes 1 16 32 0
 unfolding contribution_list all_items
 no_version = refl
 
--- the optional debug header: a stream that is there, one that isn't, and one behind its end
+-- the optional debug header: a stream that is there, one that isn't, and one after its end
 section_header_stream : optional_stream optional_bytes 5 ≡ Some 10
 unfolding optional_stream
 section_header_stream = refl

@@ -1,7 +1,7 @@
-pub mod Contributions
-pub mod Header
-pub mod ModuleList
+pub mod ContributionSubstream
+pub mod DebugHeader
+pub mod ModuleSubstream
 pub mod OptionalStreams
 pub mod PublishedNumbers
-pub mod Sections
+pub mod SectionHeaders
 pub mod Substreams

@@ -3,16 +3,16 @@
 //! What each of its bytes means is defined in `specs/`, and each call answers that, or that there was no memory.
 #![tactic(auto)]
 
-mod contributions;
-mod header;
-mod module_list;
+mod contribution_substream;
+mod debug_header;
+mod module_substream;
 mod optional_streams;
-mod sections;
+mod section_headers;
 mod substreams;
 
-pub use contributions::read_contributions;
-pub use header::{DebugHeader, read_header};
-pub use module_list::{ModuleStream, read_modules};
+pub use contribution_substream::read_contributions;
+pub use debug_header::{DebugHeader, read_header};
+pub use module_substream::{ModuleStream, read_modules};
 pub use optional_streams::{optional_stream, stream_number};
-pub use sections::{map_addresses, read_sections};
+pub use section_headers::{map_addresses, read_sections};
 pub use substreams::{Substream, take_substream};

@@ -1,4 +1,3 @@
-pub mod Provided
 pub mod Errors
 pub mod Outcomes
 pub mod PartSet

@@ -1,10 +1,8 @@
-//! What calls are refused with, sets of parts of the records that were met broken, and the provider of modules.
+//! What calls are refused with, and sets of parts of the records that were met broken.
 #![tactic(auto)]
 
 mod error;
 mod part_set;
-mod provider;
 
 pub use error::{Error, Result};
 pub use part_set::{BrokenPart, PartSet};
-pub use provider::ModuleProvider;

@@ -82,7 +82,7 @@ impl<P: BrokenPart> PartSet<P> {
 
     /// What a part that is met broken answers: its own error where it is new, and then it is remembered,
     /// else that it failed before. Answers `AllocError` where memory runs out, and the set stays.
-    pub fn ask(&mut self, part: P, error: Error) -> Result<Error, AllocError>
+    pub fn fail(&mut self, part: P, error: Error) -> Result<Error, AllocError>
         ensures answer { IfOk result (λ e. e ≡ error_of_part P.cmp P.unsuccessful_of self.old part error) }
         ensures state { OnOk result (self.new ≡ add_part P.cmp self.old part) }
         ensures unchanged_if_refused { OnErr result (self.new ≡ self.old) }

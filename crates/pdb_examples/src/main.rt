@@ -8,11 +8,8 @@ mod signatures;
 mod stacks;
 
 use anyhow::{Result, bail};
-use pdb_addr2line::ContextPdbData;
-use pdb_container::read_pdb;
 use signatures::print_signature;
 use stacks::print_stacks;
-use std::rt::Files;
 use std::{env, fs};
 
 /// The word for the signature of a function.
@@ -23,28 +20,12 @@ fn main(rt: HostRuntime) -> Result<()> {
     let [_, file, questions @ ..] = words.as_slice() else {
         bail!("usage: pdb_examples PDB (ADDRESS..|type NAME INDEX)");
     };
-    let data = read_file(&rt, file.as_str())?;
-    answer(&rt, &data, questions)
-}
-
-/// The records of a PDB file.
-fn read_file<R: Files + AllocGlobal>(rt: &R, path: &str) -> Result<ContextPdbData<'static>> {
-    let records = read_pdb(rt.alloc(), &fs::read(rt, path)?)?;
-    Ok(ContextPdbData::try_from_pdb(rt.alloc(), records)?)
-}
-
-/// Prints what is asked for.
-fn answer<R: Print>(rt: &R, data: &ContextPdbData<'_>, questions: &[String]) -> Result<()> {
+    let pdb = fs::read(&rt, file.as_str())?;
     match questions {
         [word, name, index] if word.as_str() == TYPE => {
-            print_signature(
-                rt,
-                data,
-                name.as_str(),
-                0,
-                u32::from_str_radix(index.as_str(), 16)?,
-            )
+            let index = u32::from_str_radix(index.as_str(), 16)?;
+            print_signature(&rt, &pdb, name.as_str(), 0, index)
         }
-        addresses => print_stacks(rt, data, addresses),
+        addresses => print_stacks(&rt, &pdb, addresses),
     }
 }

@@ -1,13 +1,13 @@
 //! Writes ids of functions, methods and strings as JSON.
 
-use crate::faults::ExportFault;
+use crate::export_error::ExportError;
 use crate::items::ToMembers;
 use crate::members::{member, optional};
 use json::Writer;
 use pdb_records::{FunctionId, IdData, MemberFunctionId};
 
 impl ToMembers for IdData {
-    fn to_members(&self, text: &mut Writer) -> Result<(), ExportFault> {
+    fn to_members(&self, text: &mut Writer) -> Result<(), ExportError> {
         match self {
             IdData::MemberFunction(id) => member_function(text, id),
             IdData::Function(id) => function(text, id),
@@ -28,7 +28,7 @@ impl ToMembers for IdData {
 }
 
 /// Writes the members of a function of a class.
-fn member_function(text: &mut Writer, id: &MemberFunctionId) -> Result<(), ExportFault> {
+fn member_function(text: &mut Writer, id: &MemberFunctionId) -> Result<(), ExportError> {
     member(text, "kind", &"MemberFunction")?;
     member(text, "parent", &id.parent)?;
     member(text, "function_type", &id.function_type)?;
@@ -36,7 +36,7 @@ fn member_function(text: &mut Writer, id: &MemberFunctionId) -> Result<(), Expor
 }
 
 /// Writes the members of a function of no class.
-fn function(text: &mut Writer, id: &FunctionId) -> Result<(), ExportFault> {
+fn function(text: &mut Writer, id: &FunctionId) -> Result<(), ExportError> {
     member(text, "kind", &"Function")?;
     optional(text, "scope", &id.scope)?;
     member(text, "function_type", &id.function_type)?;

@@ -1,6 +1,6 @@
 //! Writes the list of types or of ids as JSON, each with its index, or with its error.
 
-use crate::faults::ExportFault;
+use crate::export_error::ExportError;
 use crate::members::{ToJson, member};
 use json::Writer;
 use pdb_records::{Error, Item, ItemInformation};
@@ -8,17 +8,17 @@ use pdb_records::{Error, Item, ItemInformation};
 /// What is written as members of an object that has others too.
 pub(crate) trait ToMembers {
     /// Writes the members.
-    fn to_members(&self, text: &mut Writer) -> Result<(), ExportFault>;
+    fn to_members(&self, text: &mut Writer) -> Result<(), ExportError>;
 }
 
 impl<I: ToJson, D: ToMembers> ToJson for ItemInformation<I, D> {
-    fn to_json(&self, text: &mut Writer) -> Result<(), ExportFault> {
+    fn to_json(&self, text: &mut Writer) -> Result<(), ExportError> {
         self.items.to_json(text)
     }
 }
 
 impl<I: ToJson, D: ToMembers> ToJson for Item<I, D> {
-    fn to_json(&self, text: &mut Writer) -> Result<(), ExportFault> {
+    fn to_json(&self, text: &mut Writer) -> Result<(), ExportError> {
         text.begin_object()?;
         member(text, "index", &self.index)?;
         match &self.content {
@@ -30,12 +30,12 @@ impl<I: ToJson, D: ToMembers> ToJson for Item<I, D> {
 }
 
 impl ToJson for Error {
-    fn to_json(&self, text: &mut Writer) -> Result<(), ExportFault> {
+    fn to_json(&self, text: &mut Writer) -> Result<(), ExportError> {
         text.begin_object()?;
         match self {
             Error::Stream(error) => member(text, "stream", &error.0)?,
             Error::UnimplementedTypeKind(kind) => member(text, "unimplemented", kind)?,
-            _ => return Err(ExportFault::NoRoom),
+            _ => return Err(ExportError::NoRoom),
         }
         Ok(text.end_object()?)
     }

@@ -1,6 +1,6 @@
 //! Writes names as JSON texts, or as their bytes where they are no UTF-8, and the names of kinds.
 
-use crate::faults::ExportFault;
+use crate::export_error::ExportError;
 use crate::members::ToJson;
 use json::Writer;
 use pdb_records::RawString;
@@ -11,7 +11,7 @@ pub(crate) fn kind_name<T: Copy + PartialEq>(
     text: &mut Writer,
     names: &[(&str, T)],
     kind: T,
-) -> Result<(), ExportFault> {
+) -> Result<(), ExportError> {
     for (name, known) in names {
         if *known == kind {
             return name.to_json(text);
@@ -21,20 +21,20 @@ pub(crate) fn kind_name<T: Copy + PartialEq>(
 }
 
 impl ToJson for &str {
-    fn to_json(&self, text: &mut Writer) -> Result<(), ExportFault> {
+    fn to_json(&self, text: &mut Writer) -> Result<(), ExportError> {
         Ok(text.string(self)?)
     }
 }
 
 impl ToJson for String {
-    fn to_json(&self, text: &mut Writer) -> Result<(), ExportFault> {
+    fn to_json(&self, text: &mut Writer) -> Result<(), ExportError> {
         self.as_str().to_json(text)
     }
 }
 
 impl ToJson for RawString {
     /// Writes a name: a text where it is UTF-8, and else its bytes.
-    fn to_json(&self, text: &mut Writer) -> Result<(), ExportFault> {
+    fn to_json(&self, text: &mut Writer) -> Result<(), ExportError> {
         match str::from_utf8(&self.0) {
             Ok(name) => name.to_json(text),
             Err(_) => self.0.to_json(text),

@@ -5,7 +5,7 @@
 #![tactic(auto)]
 
 mod debug_information;
-mod faults;
+mod export_error;
 mod ids;
 mod items;
 mod json_names;
@@ -13,11 +13,11 @@ mod lines;
 mod members;
 mod modules;
 mod numbers;
-mod records_file;
+mod records_writer;
 mod sections;
 mod strings;
 mod symbols;
 mod types;
 
-pub use faults::ExportFault;
-pub use records_file::{write_module, write_records};
+pub use export_error::ExportError;
+pub use records_writer::{write_module, write_records};

@@ -1,13 +1,13 @@
 //! Writes line programs, their entries and rows as JSON.
 
-use crate::faults::ExportFault;
+use crate::export_error::ExportError;
 use crate::members::{ToJson, member};
 use crate::sections::section_offset;
 use json::Writer;
 use pdb_records::{LineInfo, LineProgram, SymbolLines};
 
 impl ToJson for LineInfo {
-    fn to_json(&self, text: &mut Writer) -> Result<(), ExportFault> {
+    fn to_json(&self, text: &mut Writer) -> Result<(), ExportError> {
         text.begin_object()?;
         member(text, "offset", &self.offset)?;
         member(text, "file_index", &self.file_index)?;
@@ -17,7 +17,7 @@ impl ToJson for LineInfo {
 }
 
 impl ToJson for SymbolLines {
-    fn to_json(&self, text: &mut Writer) -> Result<(), ExportFault> {
+    fn to_json(&self, text: &mut Writer) -> Result<(), ExportError> {
         text.begin_object()?;
         section_offset(text, self.offset)?;
         member(text, "lines", &self.lines)?;
@@ -26,7 +26,7 @@ impl ToJson for SymbolLines {
 }
 
 impl ToJson for LineProgram {
-    fn to_json(&self, text: &mut Writer) -> Result<(), ExportFault> {
+    fn to_json(&self, text: &mut Writer) -> Result<(), ExportError> {
         text.begin_object()?;
         member(text, "entries", &self.entries)?;
         member(text, "files", &self.files)?;

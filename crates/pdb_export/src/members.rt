@@ -1,13 +1,13 @@
 //! Members of JSON objects, lists, readings with their faults, and streams that failed.
 
-use crate::faults::ExportFault;
+use crate::export_error::ExportError;
 use json::Writer;
 use pdb_records::{Reading, StreamError};
 
 /// What is written as a value of a records file.
 pub(crate) trait ToJson {
     /// Writes the value.
-    fn to_json(&self, text: &mut Writer) -> Result<(), ExportFault>;
+    fn to_json(&self, text: &mut Writer) -> Result<(), ExportError>;
 }
 
 /// Writes a member of an object.
@@ -15,7 +15,7 @@ pub(crate) fn member<T: ToJson>(
     text: &mut Writer,
     name: &str,
     value: &T,
-) -> Result<(), ExportFault> {
+) -> Result<(), ExportError> {
     text.key(name)?;
     value.to_json(text)
 }
@@ -25,7 +25,7 @@ pub(crate) fn optional<T: ToJson>(
     text: &mut Writer,
     name: &str,
     value: &Option<T>,
-) -> Result<(), ExportFault> {
+) -> Result<(), ExportError> {
     match value {
         Some(value) => member(text, name, value),
         None => Ok(()),
@@ -33,7 +33,7 @@ pub(crate) fn optional<T: ToJson>(
 }
 
 impl<T: ToJson> ToJson for Option<T> {
-    fn to_json(&self, text: &mut Writer) -> Result<(), ExportFault> {
+    fn to_json(&self, text: &mut Writer) -> Result<(), ExportError> {
         match self {
             Some(value) => value.to_json(text),
             None => Ok(text.null()?),
@@ -42,7 +42,7 @@ impl<T: ToJson> ToJson for Option<T> {
 }
 
 impl<T: ToJson> ToJson for Vec<T> {
-    fn to_json(&self, text: &mut Writer) -> Result<(), ExportFault> {
+    fn to_json(&self, text: &mut Writer) -> Result<(), ExportError> {
         text.begin_array()?;
         for value in self {
             value.to_json(text)?;
@@ -52,7 +52,7 @@ impl<T: ToJson> ToJson for Vec<T> {
 }
 
 impl<T: ToJson> ToJson for Reading<T> {
-    fn to_json(&self, text: &mut Writer) -> Result<(), ExportFault> {
+    fn to_json(&self, text: &mut Writer) -> Result<(), ExportError> {
         match self.fault {
             None => self.items.to_json(text),
             Some(fault) => faulty(text, &self.items, fault),
@@ -60,12 +60,12 @@ impl<T: ToJson> ToJson for Reading<T> {
     }
 }
 
-/// Writes the items of a list, and the fault that stands behind them.
+/// Writes the items of a list, and the fault that stands after them.
 fn faulty<T: ToJson>(
     text: &mut Writer,
     items: &Vec<T>,
     fault: StreamError,
-) -> Result<(), ExportFault> {
+) -> Result<(), ExportError> {
     text.begin_object()?;
     member(text, "items", items)?;
     member(text, "fault", &fault.0)?;
@@ -73,7 +73,7 @@ fn faulty<T: ToJson>(
 }
 
 impl<T: ToJson> ToJson for Result<T, StreamError> {
-    fn to_json(&self, text: &mut Writer) -> Result<(), ExportFault> {
+    fn to_json(&self, text: &mut Writer) -> Result<(), ExportError> {
         match self {
             Ok(value) => value.to_json(text),
             Err(error) => failed(text, *error),
@@ -82,7 +82,7 @@ impl<T: ToJson> ToJson for Result<T, StreamError> {
 }
 
 /// Writes a stream that could not be read.
-fn failed(text: &mut Writer, error: StreamError) -> Result<(), ExportFault> {
+fn failed(text: &mut Writer, error: StreamError) -> Result<(), ExportError> {
     text.begin_object()?;
     member(text, "error", &error.0)?;
     Ok(text.end_object()?)

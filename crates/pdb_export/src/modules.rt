@@ -1,12 +1,12 @@
 //! Writes what is known of a module as JSON: symbols, lines, inlinees, imports, exports.
 
-use crate::faults::ExportFault;
+use crate::export_error::ExportError;
 use crate::members::{ToJson, member};
 use json::Writer;
 use pdb_records::{CrossModuleExports, CrossModuleImports, ImportedModule, ModuleInfo};
 
 impl ToJson for ImportedModule {
-    fn to_json(&self, text: &mut Writer) -> Result<(), ExportFault> {
+    fn to_json(&self, text: &mut Writer) -> Result<(), ExportError> {
         text.begin_object()?;
         member(text, "module", &self.module)?;
         member(text, "locals", &self.locals)?;
@@ -15,14 +15,14 @@ impl ToJson for ImportedModule {
 }
 
 impl ToJson for CrossModuleImports {
-    fn to_json(&self, text: &mut Writer) -> Result<(), ExportFault> {
+    fn to_json(&self, text: &mut Writer) -> Result<(), ExportError> {
         self.modules.to_json(text)
     }
 }
 
 impl ToJson for (u32, u32) {
     /// Writes an export: the number under which an index is offered, and the index.
-    fn to_json(&self, text: &mut Writer) -> Result<(), ExportFault> {
+    fn to_json(&self, text: &mut Writer) -> Result<(), ExportError> {
         text.begin_object()?;
         member(text, "local", &self.0)?;
         member(text, "global", &self.1)?;
@@ -31,13 +31,13 @@ impl ToJson for (u32, u32) {
 }
 
 impl ToJson for CrossModuleExports {
-    fn to_json(&self, text: &mut Writer) -> Result<(), ExportFault> {
+    fn to_json(&self, text: &mut Writer) -> Result<(), ExportError> {
         self.exports.to_json(text)
     }
 }
 
 impl ToJson for ModuleInfo {
-    fn to_json(&self, text: &mut Writer) -> Result<(), ExportFault> {
+    fn to_json(&self, text: &mut Writer) -> Result<(), ExportError> {
         text.begin_object()?;
         member(text, "symbols", &self.symbols)?;
         member(text, "line_program", &self.line_program)?;

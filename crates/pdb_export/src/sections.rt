@@ -1,6 +1,6 @@
 //! Writes sections, address ranges and section offsets as JSON.
 
-use crate::faults::ExportFault;
+use crate::export_error::ExportError;
 use crate::members::{ToJson, member};
 use json::Writer;
 use pdb_records::{AddressMap, AddressRange, ImageSectionHeader, PdbInternalSectionOffset};
@@ -9,13 +9,13 @@ use pdb_records::{AddressMap, AddressRange, ImageSectionHeader, PdbInternalSecti
 pub(crate) fn section_offset(
     text: &mut Writer,
     section_offset: PdbInternalSectionOffset,
-) -> Result<(), ExportFault> {
+) -> Result<(), ExportError> {
     member(text, "section", &section_offset.section)?;
     member(text, "offset", &section_offset.offset)
 }
 
 impl ToJson for ImageSectionHeader {
-    fn to_json(&self, text: &mut Writer) -> Result<(), ExportFault> {
+    fn to_json(&self, text: &mut Writer) -> Result<(), ExportError> {
         text.begin_object()?;
         member(text, "virtual_address", &self.virtual_address)?;
         member(text, "virtual_size", &self.virtual_size)?;
@@ -25,7 +25,7 @@ impl ToJson for ImageSectionHeader {
 }
 
 impl ToJson for AddressRange {
-    fn to_json(&self, text: &mut Writer) -> Result<(), ExportFault> {
+    fn to_json(&self, text: &mut Writer) -> Result<(), ExportError> {
         text.begin_object()?;
         member(text, "virtual_address", &self.virtual_address)?;
         member(text, "virtual_size", &self.virtual_size)?;
@@ -34,7 +34,7 @@ impl ToJson for AddressRange {
 }
 
 impl ToJson for AddressMap {
-    fn to_json(&self, text: &mut Writer) -> Result<(), ExportFault> {
+    fn to_json(&self, text: &mut Writer) -> Result<(), ExportError> {
         self.sections.to_json(text)
     }
 }

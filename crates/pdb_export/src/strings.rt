@@ -1,12 +1,12 @@
 //! Writes the texts of the string table as JSON.
 
-use crate::faults::ExportFault;
+use crate::export_error::ExportError;
 use crate::members::{ToJson, member};
 use json::Writer;
 use pdb_records::{RawString, StringRef, StringTable};
 
 impl ToJson for (StringRef, RawString) {
-    fn to_json(&self, text: &mut Writer) -> Result<(), ExportFault> {
+    fn to_json(&self, text: &mut Writer) -> Result<(), ExportError> {
         text.begin_object()?;
         member(text, "ref", &self.0)?;
         member(text, "text", &self.1)?;
@@ -15,7 +15,7 @@ impl ToJson for (StringRef, RawString) {
 }
 
 impl ToJson for StringTable {
-    fn to_json(&self, text: &mut Writer) -> Result<(), ExportFault> {
+    fn to_json(&self, text: &mut Writer) -> Result<(), ExportError> {
         self.strings.to_json(text)
     }
 }

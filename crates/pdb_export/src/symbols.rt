@@ -1,6 +1,6 @@
 //! Writes symbols as JSON: public ones, procedures, thunks, separated code, inline sites with their rows.
 
-use crate::faults::ExportFault;
+use crate::export_error::ExportError;
 use crate::members::{ToJson, member, optional};
 use crate::sections::section_offset;
 use json::Writer;
@@ -10,13 +10,13 @@ use pdb_records::{
 };
 
 impl ToJson for SymbolTable {
-    fn to_json(&self, text: &mut Writer) -> Result<(), ExportFault> {
+    fn to_json(&self, text: &mut Writer) -> Result<(), ExportError> {
         self.symbols.to_json(text)
     }
 }
 
 impl ToJson for Symbol {
-    fn to_json(&self, text: &mut Writer) -> Result<(), ExportFault> {
+    fn to_json(&self, text: &mut Writer) -> Result<(), ExportError> {
         text.begin_object()?;
         member(text, "raw_kind", &self.raw_kind)?;
         optional(text, "data", &self.content)?;
@@ -25,7 +25,7 @@ impl ToJson for Symbol {
 }
 
 impl ToJson for SymbolData {
-    fn to_json(&self, text: &mut Writer) -> Result<(), ExportFault> {
+    fn to_json(&self, text: &mut Writer) -> Result<(), ExportError> {
         text.begin_object()?;
         match self {
             SymbolData::Public(symbol) => public(text, symbol)?,
@@ -40,14 +40,14 @@ impl ToJson for SymbolData {
 }
 
 /// Writes the members of a name that is visible outside its module.
-fn public(text: &mut Writer, symbol: &PublicSymbol) -> Result<(), ExportFault> {
+fn public(text: &mut Writer, symbol: &PublicSymbol) -> Result<(), ExportError> {
     member(text, "kind", &"Public")?;
     section_offset(text, symbol.offset)?;
     member(text, "name", &symbol.name)
 }
 
 /// Writes the members of a procedure.
-fn procedure(text: &mut Writer, symbol: &ProcedureSymbol) -> Result<(), ExportFault> {
+fn procedure(text: &mut Writer, symbol: &ProcedureSymbol) -> Result<(), ExportError> {
     member(text, "kind", &"Procedure")?;
     section_offset(text, symbol.offset)?;
     member(text, "len", &symbol.len)?;
@@ -57,7 +57,7 @@ fn procedure(text: &mut Writer, symbol: &ProcedureSymbol) -> Result<(), ExportFa
 }
 
 /// Writes the members of code that stands apart from its procedure's body.
-fn separated_code(text: &mut Writer, symbol: &SeparatedCodeSymbol) -> Result<(), ExportFault> {
+fn separated_code(text: &mut Writer, symbol: &SeparatedCodeSymbol) -> Result<(), ExportError> {
     member(text, "kind", &"SeparatedCode")?;
     section_offset(text, symbol.offset)?;
     member(text, "len", &symbol.len)?;
@@ -67,7 +67,7 @@ fn separated_code(text: &mut Writer, symbol: &SeparatedCodeSymbol) -> Result<(),
 }
 
 /// Writes the members of a short piece of code that leads to a procedure.
-fn thunk(text: &mut Writer, symbol: &ThunkSymbol) -> Result<(), ExportFault> {
+fn thunk(text: &mut Writer, symbol: &ThunkSymbol) -> Result<(), ExportError> {
     member(text, "kind", &"Thunk")?;
     section_offset(text, symbol.offset)?;
     member(text, "len", &symbol.len)?;
@@ -76,7 +76,7 @@ fn thunk(text: &mut Writer, symbol: &ThunkSymbol) -> Result<(), ExportFault> {
 }
 
 /// Writes the members of a place where a call was replaced by the callee's body.
-fn inline_site(text: &mut Writer, symbol: &InlineSiteSymbol) -> Result<(), ExportFault> {
+fn inline_site(text: &mut Writer, symbol: &InlineSiteSymbol) -> Result<(), ExportError> {
     member(text, "kind", &"InlineSite")?;
     member(text, "inlinee", &symbol.inlinee)?;
     member(text, "end", &symbol.end)?;
@@ -84,7 +84,7 @@ fn inline_site(text: &mut Writer, symbol: &InlineSiteSymbol) -> Result<(), Expor
 }
 
 impl ToJson for InlineRow {
-    fn to_json(&self, text: &mut Writer) -> Result<(), ExportFault> {
+    fn to_json(&self, text: &mut Writer) -> Result<(), ExportError> {
         text.begin_object()?;
         member(text, "offset", &self.offset)?;
         optional(text, "length", &self.length)?;

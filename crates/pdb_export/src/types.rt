@@ -1,6 +1,6 @@
 //! Writes types as JSON, each kind with its members.
 
-use crate::faults::ExportFault;
+use crate::export_error::ExportError;
 use crate::items::ToMembers;
 use crate::json_names::kind_name;
 use crate::members::{ToJson, member, optional};
@@ -13,7 +13,7 @@ use pdb_records::{
 };
 
 impl ToMembers for TypeData {
-    fn to_members(&self, text: &mut Writer) -> Result<(), ExportFault> {
+    fn to_members(&self, text: &mut Writer) -> Result<(), ExportError> {
         match self {
             TypeData::Primitive(data) => primitive(text, *data),
             TypeData::Class(data) => class(text, data),
@@ -42,20 +42,20 @@ impl ToMembers for TypeData {
 }
 
 /// Writes the members of a type that the compiler brings.
-fn primitive(text: &mut Writer, data: PrimitiveType) -> Result<(), ExportFault> {
+fn primitive(text: &mut Writer, data: PrimitiveType) -> Result<(), ExportError> {
     member(text, "kind", &"Primitive")?;
     member(text, "primitive", &data.kind)?;
     member(text, "indirection", &data.indirection)
 }
 
 impl ToJson for PrimitiveKind {
-    fn to_json(&self, text: &mut Writer) -> Result<(), ExportFault> {
+    fn to_json(&self, text: &mut Writer) -> Result<(), ExportError> {
         kind_name(text, &PRIMITIVE_KINDS, *self)
     }
 }
 
 /// Writes the members of a class, a struct or an interface.
-fn class(text: &mut Writer, data: &ClassType) -> Result<(), ExportFault> {
+fn class(text: &mut Writer, data: &ClassType) -> Result<(), ExportError> {
     member(text, "kind", &"Class")?;
     member(text, "class_kind", &data.class_kind)?;
     member(text, "name", &data.name)?;
@@ -65,13 +65,13 @@ fn class(text: &mut Writer, data: &ClassType) -> Result<(), ExportFault> {
 }
 
 impl ToJson for ClassKind {
-    fn to_json(&self, text: &mut Writer) -> Result<(), ExportFault> {
+    fn to_json(&self, text: &mut Writer) -> Result<(), ExportError> {
         kind_name(text, &CLASS_KINDS, *self)
     }
 }
 
 /// Writes the members of the type of a function that belongs to a class.
-fn member_function(text: &mut Writer, data: MemberFunctionType) -> Result<(), ExportFault> {
+fn member_function(text: &mut Writer, data: MemberFunctionType) -> Result<(), ExportError> {
     member(text, "kind", &"MemberFunction")?;
     member(text, "return_type", &data.return_type)?;
     member(text, "class_type", &data.class_type)?;
@@ -81,7 +81,7 @@ fn member_function(text: &mut Writer, data: MemberFunctionType) -> Result<(), Ex
 }
 
 /// Writes the members of the type of a function that belongs to no class.
-fn procedure(text: &mut Writer, data: ProcedureType) -> Result<(), ExportFault> {
+fn procedure(text: &mut Writer, data: ProcedureType) -> Result<(), ExportError> {
     member(text, "kind", &"Procedure")?;
     optional(text, "return_type", &data.return_type)?;
     member(text, "is_constructor", &data.is_constructor)?;
@@ -89,7 +89,7 @@ fn procedure(text: &mut Writer, data: ProcedureType) -> Result<(), ExportFault> 
 }
 
 /// Writes the members of a pointer or a reference.
-fn pointer(text: &mut Writer, data: PointerType) -> Result<(), ExportFault> {
+fn pointer(text: &mut Writer, data: PointerType) -> Result<(), ExportError> {
     member(text, "kind", &"Pointer")?;
     member(text, "underlying_type", &data.underlying_type)?;
     member(text, "mode", &data.mode)?;
@@ -98,13 +98,13 @@ fn pointer(text: &mut Writer, data: PointerType) -> Result<(), ExportFault> {
 }
 
 impl ToJson for PointerMode {
-    fn to_json(&self, text: &mut Writer) -> Result<(), ExportFault> {
+    fn to_json(&self, text: &mut Writer) -> Result<(), ExportError> {
         kind_name(text, &POINTER_MODES, *self)
     }
 }
 
 /// Writes the members of an array.
-fn array(text: &mut Writer, data: &ArrayType) -> Result<(), ExportFault> {
+fn array(text: &mut Writer, data: &ArrayType) -> Result<(), ExportError> {
     member(text, "kind", &"Array")?;
     member(text, "element_type", &data.element_type)?;
     member(text, "first", &data.first)?;
@@ -112,7 +112,7 @@ fn array(text: &mut Writer, data: &ArrayType) -> Result<(), ExportFault> {
 }
 
 /// Writes the members of a union.
-fn union_type(text: &mut Writer, data: &UnionType) -> Result<(), ExportFault> {
+fn union_type(text: &mut Writer, data: &UnionType) -> Result<(), ExportError> {
     member(text, "kind", &"Union")?;
     member(text, "name", &data.name)?;
     optional(text, "unique_name", &data.unique_name)?;
@@ -121,14 +121,14 @@ fn union_type(text: &mut Writer, data: &UnionType) -> Result<(), ExportFault> {
 }
 
 /// Writes the members of an enumeration.
-fn enumeration(text: &mut Writer, data: &EnumerationType) -> Result<(), ExportFault> {
+fn enumeration(text: &mut Writer, data: &EnumerationType) -> Result<(), ExportError> {
     member(text, "kind", &"Enumeration")?;
     member(text, "name", &data.name)?;
     member(text, "underlying_type", &data.underlying_type)
 }
 
 impl ToJson for Variant {
-    fn to_json(&self, text: &mut Writer) -> Result<(), ExportFault> {
+    fn to_json(&self, text: &mut Writer) -> Result<(), ExportError> {
         match *self {
             Variant::U8(value) => variant(text, "U8", &value),
             Variant::U16(value) => variant(text, "U16", &value),
@@ -143,7 +143,7 @@ impl ToJson for Variant {
 }
 
 /// Writes a number with the kind that it was declared with.
-fn variant<T: ToJson>(text: &mut Writer, kind: &str, value: &T) -> Result<(), ExportFault> {
+fn variant<T: ToJson>(text: &mut Writer, kind: &str, value: &T) -> Result<(), ExportError> {
     text.begin_object()?;
     member(text, "kind", &kind)?;
     member(text, "value", value)?;
@@ -151,7 +151,7 @@ fn variant<T: ToJson>(text: &mut Writer, kind: &str, value: &T) -> Result<(), Ex
 }
 
 /// Writes the members of a type with `const` before it, or without.
-fn modifier(text: &mut Writer, data: ModifierType) -> Result<(), ExportFault> {
+fn modifier(text: &mut Writer, data: ModifierType) -> Result<(), ExportError> {
     member(text, "kind", &"Modifier")?;
     member(text, "underlying_type", &data.underlying_type)?;
     member(text, "constant", &data.constant)

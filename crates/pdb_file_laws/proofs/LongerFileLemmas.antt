@@ -13,13 +13,13 @@ use Rattle.pdb_msf.specs.Faults.{◌>>=◌}
 use Rattle.pdb_msf.specs.Msf.{Msf, container}
 use Rattle.pdb_msf.specs.Streams.{all_inside}
 use Rattle.pdb_codeview.specs.Places.{place}
-use Rattle.pdb_dbi.specs.declared.module_list.ModuleStream.{ModuleStream}
-use Rattle.pdb_dbi.specs.ModuleList.{module_streams}
-use Rattle.pdb_container.specs.DebugRecords.{symbols_in}
-use Rattle.pdb_container.specs.Functions.{FunctionStart, any_function}
+use Rattle.pdb_dbi.specs.declared.module_substream.ModuleStream.{ModuleStream}
+use Rattle.pdb_dbi.specs.ModuleSubstream.{module_streams}
+use Rattle.pdb_container.specs.DebugRecords.{symbol_stream}
+use Rattle.pdb_container.specs.FunctionsByStart.{FunctionStart, any_function}
 use Rattle.pdb_container.specs.ModulePlaces.{ModuleOrFault, bytes_read, modules_read, places_within}
-use Rattle.pdb_container.specs.Records.{records, records_of}
-use Rattle.pdb_container.specs.UnnamedCode.{CodeOfModule, code_from, named, named_modules, naming, namings}
+use Rattle.pdb_container.specs.PdbFile.{records, records_of}
+use Rattle.pdb_container.specs.UnnamedCode.{CodeOfModule, code_from, named, named_modules, renamed_symbol, renamed_symbols}
 use Rattle.pdb_file_laws.specs.SameStreams.{IsLongEnough, IsWhole, SameStreams, module_bytes, name_bytes, name_length}
 use Rattle.pdb_file_laws.proofs.MoreBytesLemmas.{bytes_stay, inside_stays, stays_container, with_file}
 use Rattle.pdb_file_laws.proofs.SameStreamLemmas.{AllSameBounds, SameBlocks, records_same, streams_same}
@@ -78,10 +78,10 @@ names_more first others (Some function) bytes room more enough longer same =
 -- code is named as it is, however many bytes more than all of theirs names may take
 namings_more : (function_there : ℕ → Option FunctionStart) (codes : List CodeOfModule) (room more : ℕ)
     → name_bytes function_there codes ≤ room → room ≤ more
-    → namings function_there room codes ≡ namings function_there more codes
+    → renamed_symbols function_there room codes ≡ renamed_symbols function_there more codes
 namings_more function_there [] room more enough longer = refl
 namings_more function_there (code ∷ codes) room more enough longer =
-    names_more (naming code) (λ n. namings function_there n codes)
+    names_more (renamed_symbol code) (λ n. renamed_symbols function_there n codes)
     (option_or code.own (function_there (place code.code.parent_offset))) (name_bytes function_there codes) room more
     enough longer (namings_more function_there codes)
 
@@ -99,7 +99,7 @@ bounds_by_room msf more enough longer front is =
     let room = enough front is in
     record {
       places = places_more msf (module_streams front.modules) (length msf.file) more room.modules longer;
-      names = named_more (symbols_in msf front.global_symbols) (modules_read msf (module_streams front.modules))
+      names = named_more (symbol_stream msf front.global_symbols) (modules_read msf (module_streams front.modules))
           (length msf.file) more room.names longer;
     }
 
@@ -116,7 +116,7 @@ all_in size file (number ∷ numbers) inside =
     (not_below (length file) (number * size + size) (inside 0 number (omega arith)))
     ∙ all_in size file numbers (λ k d below. inside (suc k) d (omega (arith, below)))
 
--- the blocks of a file that has them whole are the same with more bytes behind them
+-- the blocks of a file that has them whole are the same with more bytes after them
 blocks_stay : (msf : Msf) (more : List ℕ) → IsWhole msf → SameBlocks msf (with_file (msf.file ++ more) msf)
 blocks_stay msf more whole = record {
   block_size = refl;
@@ -130,12 +130,12 @@ blocks_stay msf more whole = record {
       (whole number size numbers has are k d below));
 }
 
--- a file with more bytes behind it is longer
+-- a file with more bytes after it is longer
 longer_with : (bytes more : List ℕ) → length bytes ≤ length (bytes ++ more)
 longer_with bytes more =
     let all : length (bytes ++ more) ≡ length bytes + length more = length-append bytes more in omega (arith, all)
 
--- what a file says with more bytes behind it
+-- what a file says with more bytes after it
 pub records_stay : (file more : List ℕ) (msf : Msf) → container file ≡ Ok msf → IsWhole msf → IsLongEnough msf
     → records_of (file ++ more) ≡ records_of file
 records_stay file more msf is whole enough =

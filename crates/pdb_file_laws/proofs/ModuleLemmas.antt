@@ -9,14 +9,14 @@ use Rattle.std.specs.Option.{option_or}
 use Rattle.pdb_records.specs.declared.symbols.Symbol.{Symbol}
 use Rattle.pdb_msf.specs.Msf.{Msf}
 use Rattle.pdb_codeview.specs.Places.{place}
-use Rattle.pdb_dbi.specs.declared.module_list.ModuleStream.{ModuleStream}
+use Rattle.pdb_dbi.specs.declared.module_substream.ModuleStream.{ModuleStream}
 use Rattle.pdb_container.proofs.ModuleLemmas.{count_of_places}
 use Rattle.pdb_container.specs.DebugRecords.{global_symbols, module_infos, streams_of_modules}
-use Rattle.pdb_container.specs.Functions.{FunctionStart, any_function, symbols_of}
+use Rattle.pdb_container.specs.FunctionsByStart.{FunctionStart, any_function, symbols_of}
 use Rattle.pdb_container.specs.ModulePlaces.{ModuleOrFault, PlaceOrFault, module_at, module_of, module_places}
 use Rattle.pdb_container.specs.ModulePlaces.{modules_read}
-use Rattle.pdb_container.specs.UnnamedCode.{CodeApart, CodeOfModule, apart_from, changed_at, code_from, code_in_module}
-use Rattle.pdb_container.specs.UnnamedCode.{code_of_module, named, named_modules, naming, namings}
+use Rattle.pdb_container.specs.UnnamedCode.{Chunk, CodeOfModule, separated_from, changed_at, code_from, code_in_module}
+use Rattle.pdb_container.specs.UnnamedCode.{code_of_module, named, named_modules, renamed_symbol, renamed_symbols}
 use Rattle.pdb_file_laws.specs.ModulesAlone.{HasNamedCode, IsSaidAlone}
 
 -- a list that was set at a place is as it was at the others
@@ -47,17 +47,17 @@ AllElsewhere position codes = AllByRecursion (λ code. code.module_index ≢ pos
 -- the module at a position stays as it is where this code is named
 abbrev Stays : ℕ → (ℕ → Option FunctionStart) → List CodeOfModule → Type 0
 Stays position function_there codes = (room : ℕ) (modules : List ModuleOrFault)
-    → slice_get (fold named modules (namings function_there room codes)) position ≡ slice_get modules position
+    → slice_get (fold named modules (renamed_symbols function_there room codes)) position ≡ slice_get modules position
 
 -- where code of another module is named first, the module at a position is what the rest of the code leaves of it
 named_elsewhere : (position room : ℕ) (code : CodeOfModule) (codes : List CodeOfModule)
     (function_there : ℕ → Option FunctionStart) (function : FunctionStart) → code.module_index ≢ position
     → Stays position function_there codes → (modules : List ModuleOrFault) (fits : Bool)
     → slice_get (fold named modules (if fits
-    then naming code function ∷ namings function_there (room - length function.name) codes
-    else namings function_there room codes)) position ≡ slice_get modules position
+    then renamed_symbol code function ∷ renamed_symbols function_there (room - length function.name) codes
+    else renamed_symbols function_there room codes)) position ≡ slice_get modules position
 named_elsewhere position room code codes function_there function other rest modules true =
-    rest (room - length function.name) (named modules (naming code function))
+    rest (room - length function.name) (named modules (renamed_symbol code function))
     ∙ changed_elsewhere modules code.module_index position _ other
 named_elsewhere position room code codes function_there function other rest modules false = rest room modules
 
@@ -70,10 +70,10 @@ by_option none some (Some value) = some value
 found_elsewhere : (position room : ℕ) (code : CodeOfModule) (codes : List CodeOfModule)
     (function_there : ℕ → Option FunctionStart) → code.module_index ≢ position
     → Stays position function_there codes → (modules : List ModuleOrFault) (found : Option FunctionStart)
-    → slice_get (fold named modules (by_option (namings function_there room codes)
+    → slice_get (fold named modules (by_option (renamed_symbols function_there room codes)
     (λ function. if nat_le (length function.name) room
-    then naming code function ∷ namings function_there (room - length function.name) codes
-    else namings function_there room codes) found)) position ≡ slice_get modules position
+    then renamed_symbol code function ∷ renamed_symbols function_there (room - length function.name) codes
+    else renamed_symbols function_there room codes) found)) position ≡ slice_get modules position
 unfolding by_option
 found_elsewhere position room code codes function_there other rest modules None = rest room modules
 found_elsewhere position room code codes function_there other rest modules (Some function) =
@@ -98,7 +98,7 @@ both_elsewhere position (code ∷ first) second elsewhere others =
     (elsewhere.0, both_elsewhere position first second elsewhere.1 others)
 
 -- the code of a module is of another than the one at a position, where it stands elsewhere
-other_elsewhere : (position index : ℕ) (symbols : List Symbol) (codes : List CodeApart) → index ≢ position
+other_elsewhere : (position index : ℕ) (symbols : List Symbol) (codes : List Chunk) → index ≢ position
     → AllElsewhere position (map (code_in_module index symbols) codes)
 other_elsewhere position index symbols [] other = tt
 other_elsewhere position index symbols (code ∷ codes) other =
@@ -112,7 +112,7 @@ first_elsewhere position index symbols none true same =
     let here : (index ≡ position) = eqb-true index position same in
     subst (AllElsewhere position) (sym (ap (λ i. code_of_module i symbols) here ∙ none here)) tt
 first_elsewhere position index symbols none false same =
-    other_elsewhere position index symbols (apart_from 0 None symbols) (eqb-false index position same)
+    other_elsewhere position index symbols (separated_from 0 None symbols) (eqb-false index position same)
 
 -- so is all code of modules, where the one at the position has no code without a name
 code_elsewhere : (position index : ℕ) (modules : List ModuleOrFault)

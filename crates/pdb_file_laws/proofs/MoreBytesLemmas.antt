@@ -1,4 +1,4 @@
--- A container that has more bytes behind it.
+-- A container that has more bytes after it.
 use Rattle.std.proofs.Common.{◌≡◌, ◌∙◌, ℕ, ◌+◌, ◌*◌, ◌-◌, ◌≤◌, Bool, true, false, cond, not, nat_lt}
 use Rattle.std.proofs.Common.{List, [], ◌∷◌, ◌++◌, take, drop, length, Result, Ok, Err, refl, sym, ap, arith}
 use Rattle.std.proofs.lemmas.Grind.{common_steps}
@@ -7,15 +7,15 @@ use Rattle.std.specs.Prelude.{if◌then◌else◌}
 use Rattle.std.specs.Int.{div_ceil}
 use Rattle.pdb_records.specs.declared.error.StreamError.{StreamError}
 use Rattle.pdb_msf.proofs.NumberLemmas.{numbers_of_taken}
-use Rattle.pdb_msf.specs.declared.container_fault.ContainerFault.{ContainerFault}
-use Rattle.pdb_msf.specs.declared.container_fault.ContainerFault.TheVariants as fault
+use Rattle.pdb_msf.specs.declared.container_error.ContainerError.{ContainerError}
+use Rattle.pdb_msf.specs.declared.container_error.ContainerError.TheVariants as fault
 use Rattle.pdb_msf.specs.declared.superblock.Superblock.{Superblock}
 use Rattle.pdb_msf.specs.declared.faults.TheConstants.{BLOCK_OUTSIDE, CUT}
 use Rattle.pdb_msf.specs.Directory.{block_map, directory, directory_blocks, map_blocks, sizes_in, total_size}
 use Rattle.pdb_msf.specs.Faults.{◌>>=◌, cut_short}
 use Rattle.pdb_msf.specs.Msf.{Msf, container}
 use Rattle.pdb_msf.specs.NumberLists.{listed, number, numbers}
-use Rattle.pdb_msf.specs.Streams.{all_inside, block, in_order, stream, stream_inside}
+use Rattle.pdb_msf.specs.Streams.{all_inside, block, bytes_of_blocks, stream, stream_inside}
 use Rattle.pdb_msf.specs.Superblock.{is_msf, superblock}
 
 -- where two meanings have a value, the first has one, and the second over it
@@ -24,7 +24,7 @@ after : {A B E : Type 0} (first : Result A E) (next : A → Result B E) (value :
 after (Ok x) next value is = (x, refl, is)
 after (Err error) next value is = cc
 
--- what is chosen behind a fault is the value where there is one
+-- what is chosen after a fault is the value where there is one
 behind_fault : {A E : Type 0} (refused : Bool) (error : E) (next : Result A E) (value : A)
     → cond refused (Err error) next ≡ Ok value → (refused ≡ false) × (next ≡ Ok value)
 behind_fault true error next value is = cc
@@ -40,7 +40,7 @@ before_cut : {A : Type 0} (read : Result A StreamError) (value : A) → cut_shor
 before_cut (Ok x) value is = cc
 before_cut (Err error) value is = cc
 
--- where there are enough bytes there are with more behind them
+-- where there are enough bytes there are with more after them
 has : (bytes : List ℕ) (n : ℕ) → nat_lt (length bytes) n ≡ false → n ≤ length bytes
 has bytes n is = grind (arith, common_steps, is)
 
@@ -105,11 +105,11 @@ inside_stays size file more (number ∷ blocks) inside =
     ∙ inside_stays size file more blocks here.1
 
 order_stays : (size : ℕ) (file more blocks : List ℕ) → all_inside size file blocks ≡ true
-    → in_order size (file ++ more) blocks ≡ in_order size file blocks
+    → bytes_of_blocks size (file ++ more) blocks ≡ bytes_of_blocks size file blocks
 order_stays size file more [] inside = refl
 order_stays size file more (number ∷ blocks) inside =
     let here = here_inside (nat_lt (length file) (number * size + size)) (all_inside size file blocks) inside in
-    ap (λ bytes. bytes ++ in_order size (file ++ more) blocks)
+    ap (λ bytes. bytes ++ bytes_of_blocks size (file ++ more) blocks)
     (bytes_stay (number * size) size file more (has file (number * size + size) here.0))
     ∙ ap (λ rest. block size file number ++ rest) (order_stays size file more blocks here.1)
 
@@ -163,7 +163,7 @@ has_front file front is =
     omega (arith, all)
 
 -- the bytes of a container that may be there
-abbrev file_of : Result Msf ContainerFault → List ℕ
+abbrev file_of : Result Msf ContainerError → List ℕ
 file_of (Ok msf) = msf.file
 file_of (Err error) = []
 
@@ -182,7 +182,7 @@ its_file file msf is =
     let fourth = behind_fault (nat_lt (length file) (total_size third.0)) _ _ msf third.2 in
     ap file_of (sym fourth.1)
 
--- a container stays, with the bytes behind it
+-- a container stays, with the bytes after it
 container_stays : (file more : List ℕ) (msf : Msf) → container file ≡ Ok msf
     → container (file ++ more) ≡ Ok (with_file (file ++ more) msf)
 unfolding container

@@ -11,22 +11,22 @@ use Rattle.pdb_records.specs.declared.error.StreamError.{StreamError}
 use Rattle.pdb_msf.specs.declared.faults.TheConstants.{NO_STREAM, REARRANGED, TOO_LONG}
 use Rattle.pdb_msf.specs.Faults.{◌>>=◌}
 use Rattle.pdb_msf.specs.Msf.{Msf, present, size_of, stream_of}
-use Rattle.pdb_codeview.specs.Symbols.{global_symbols as symbols_of}
-use Rattle.pdb_dbi.specs.declared.header.DebugHeader.{DebugHeader}
-use Rattle.pdb_dbi.specs.declared.module_list.ModuleStream.{ModuleStream}
-use Rattle.pdb_dbi.specs.Header.{header}
+use Rattle.pdb_codeview.specs.SymbolContents.{global_symbols as symbols_of}
+use Rattle.pdb_dbi.specs.declared.debug_header.DebugHeader.{DebugHeader}
+use Rattle.pdb_dbi.specs.declared.module_substream.ModuleStream.{ModuleStream}
+use Rattle.pdb_dbi.specs.DebugHeader.{header}
 use Rattle.pdb_dbi.specs.OptionalStreams.{optional_stream, stream_number}
 use Rattle.pdb_dbi.specs.PublishedNumbers.{sn_nil}
-use Rattle.pdb_dbi.specs.Sections.{section_headers}
+use Rattle.pdb_dbi.specs.SectionHeaders.{section_headers}
 use Rattle.pdb_container.specs.DebugRecords.{address_map, address_map_of, addresses_of, debug_header, debug_information}
 use Rattle.pdb_container.specs.DebugRecords.{debug_stream, global_symbols, headers_in, information_of, is_no_size}
 use Rattle.pdb_container.specs.DebugRecords.{rearranges, sections, sections_of, streams_by, streams_of_modules}
-use Rattle.pdb_container.specs.DebugRecords.{symbols_in}
+use Rattle.pdb_container.specs.DebugRecords.{symbol_stream}
 use Rattle.pdb_container.specs.Info.{named_stream}
 use Rattle.pdb_container.specs.ModulePlaces.{PlaceOrFault, bytes_read, left_behind, place_within, places_within}
 use Rattle.pdb_container.specs.Front.{HasFront}
-use Rattle.pdb_container.specs.Records.{table_of}
-use Rattle.pdb_container.specs.Strings.{names_name, string_table, string_table_in}
+use Rattle.pdb_container.specs.PdbFile.{table_of}
+use Rattle.pdb_container.specs.NameStream.{names_name, string_table, string_table_in}
 use Rattle.pdb_file_laws.specs.SameFronts.{SameFronts}
 
 -- the second meaning over one value, where the second ones agree on the value that there is
@@ -114,8 +114,8 @@ address_map_same a b same = by_header a b same address_map_of (map_of_same a b s
 -- the symbols in the stream of a number, where one that is there has the same bytes
 symbols_in_same : (a b : Msf) (number : ℕ)
     → ((n : ℕ) → stream_number number ≡ Some n → stream_of a n ≡ stream_of b n)
-    → symbols_in a number ≡ symbols_in b number
-unfolding symbols_in
+    → symbol_stream a number ≡ symbol_stream b number
+unfolding symbol_stream
 symbols_in_same a b number = by_test (number == sn_nil) where
   by_test : (none : Bool) → ((n : ℕ) → (if none then None else Some number) ≡ Some n → stream_of a n ≡ stream_of b n)
       → (if none then Err NO_STREAM else (stream_of a number >>= (λ found. Ok (symbols_of found))))
@@ -125,7 +125,7 @@ symbols_in_same a b number = by_test (number == sn_nil) where
 
 global_symbols_same : (a b : Msf) → SameFronts a b → global_symbols a ≡ global_symbols b
 unfolding global_symbols
-global_symbols_same a b same = by_header a b same (λ msf h. symbols_in msf h.global_symbols)
+global_symbols_same a b same = by_header a b same (λ msf h. symbol_stream msf h.global_symbols)
     (λ front is. symbols_in_same a b front.global_symbols (λ number there. same.symbols front number is there))
 
 string_table_same : (a b : Msf) → SameFronts a b → string_table a ≡ string_table b

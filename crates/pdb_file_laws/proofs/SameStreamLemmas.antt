@@ -15,30 +15,30 @@ use Rattle.pdb_msf.specs.Directory.{block_count}
 use Rattle.pdb_msf.specs.Faults.{◌>>=◌}
 use Rattle.pdb_msf.specs.Msf.{Msf, container, numbers_place, present, size_of, stream_blocks, stream_of}
 use Rattle.pdb_msf.specs.NumberLists.{listed}
-use Rattle.pdb_msf.specs.Streams.{all_inside, block, in_order, stream, stream_inside}
-use Rattle.pdb_codeview.specs.Symbols.{global_symbols as symbols_of}
-use Rattle.pdb_dbi.specs.declared.header.DebugHeader.{DebugHeader}
-use Rattle.pdb_dbi.specs.declared.module_list.ModuleStream.{ModuleStream}
-use Rattle.pdb_dbi.specs.Header.{header}
-use Rattle.pdb_dbi.specs.ModuleList.{module_streams}
+use Rattle.pdb_msf.specs.Streams.{all_inside, block, bytes_of_blocks, stream, stream_inside}
+use Rattle.pdb_codeview.specs.SymbolContents.{global_symbols as symbols_of}
+use Rattle.pdb_dbi.specs.declared.debug_header.DebugHeader.{DebugHeader}
+use Rattle.pdb_dbi.specs.declared.module_substream.ModuleStream.{ModuleStream}
+use Rattle.pdb_dbi.specs.DebugHeader.{header}
+use Rattle.pdb_dbi.specs.ModuleSubstream.{module_streams}
 use Rattle.pdb_dbi.specs.OptionalStreams.{optional_stream}
-use Rattle.pdb_dbi.specs.Sections.{section_headers}
-use Rattle.pdb_identity.specs.InfoFront.{info_front}
+use Rattle.pdb_dbi.specs.SectionHeaders.{section_headers}
+use Rattle.pdb_identity.specs.InfoHeader.{info_header}
 use Rattle.pdb_container.specs.DebugRecords.{address_map, address_map_of, addresses_of, debug_header, debug_information}
 use Rattle.pdb_container.specs.DebugRecords.{debug_stream, global_symbols, headers_in, information_of, is_no_size}
 use Rattle.pdb_container.specs.DebugRecords.{module_infos, rearranges, sections, sections_of, streams_by}
-use Rattle.pdb_container.specs.DebugRecords.{streams_of_modules, symbols_in}
+use Rattle.pdb_container.specs.DebugRecords.{streams_of_modules, symbol_stream}
 use Rattle.pdb_container.specs.Identity.{build_of, debug_build, identity, identity_by}
 use Rattle.pdb_container.specs.Info.{features, named_stream}
 use Rattle.pdb_file_laws.specs.SameStreams.{HoldSame, SameStreams, ShareBlocks}
 use Rattle.pdb_container.specs.ModulePlaces.{ModuleOrFault, PlaceOrFault, bytes_read, left_behind, module_of}
 use Rattle.pdb_container.specs.ModulePlaces.{module_there, modules_read, place_within, places_within}
-use Rattle.pdb_container.specs.Modules.{module_in}
-use Rattle.pdb_container.specs.Records.{records, records_of, table_of}
-use Rattle.pdb_container.specs.Strings.{names_name, string_table, string_table_in}
+use Rattle.pdb_container.specs.ModuleStreams.{module_in}
+use Rattle.pdb_container.specs.PdbFile.{records, records_of, table_of}
+use Rattle.pdb_container.specs.NameStream.{names_name, string_table, string_table_in}
 use Rattle.pdb_container.specs.TypeRecords.{id_information, ids_in, type_information}
-use Rattle.pdb_tpi.specs.Ids.{no_ids}
-use Rattle.pdb_tpi.specs.Types.{types_of}
+use Rattle.pdb_tpi.specs.IdLeaves.{no_ids}
+use Rattle.pdb_tpi.specs.TypeLeaves.{types_of}
 use Rattle.pdb_container.specs.UnnamedCode.{named_modules}
 
 -- the second meaning over one value, where the second ones agree
@@ -109,8 +109,8 @@ address_map_same a b same =
     ∙ bind_same (debug_header b) (address_map_of a) (address_map_of b) (map_of_same a b same)
 
 -- the symbols in the stream of a number
-symbols_in_same : (a b : Msf) → SameStreams a b → (number : ℕ) → symbols_in a number ≡ symbols_in b number
-unfolding symbols_in
+symbols_in_same : (a b : Msf) → SameStreams a b → (number : ℕ) → symbol_stream a number ≡ symbol_stream b number
+unfolding symbol_stream
 symbols_in_same a b same number =
     ap (λ bytes. if number == 65535 then Err NO_STREAM else (bytes >>= (λ found. Ok (symbols_of found))))
     (same.streams number)
@@ -118,8 +118,8 @@ symbols_in_same a b same number =
 global_symbols_same : (a b : Msf) → SameStreams a b → global_symbols a ≡ global_symbols b
 unfolding global_symbols
 global_symbols_same a b same =
-    ap (λ front. front >>= (λ h. symbols_in a h.global_symbols)) (header_same a b same)
-    ∙ bind_same (debug_header b) (λ h. symbols_in a h.global_symbols) (λ h. symbols_in b h.global_symbols)
+    ap (λ front. front >>= (λ h. symbol_stream a h.global_symbols)) (header_same a b same)
+    ∙ bind_same (debug_header b) (λ h. symbol_stream a h.global_symbols) (λ h. symbol_stream b h.global_symbols)
     (λ h. symbols_in_same a b same h.global_symbols)
 
 string_table_same : (a b : Msf) → SameStreams a b → string_table a ≡ string_table b
@@ -133,7 +133,7 @@ string_table_same a b same =
 -- what is known of each module of a header's list, with names for code without one
 abbrev pub modules_of : Msf → DebugHeader → List ModuleOrFault
 modules_of msf front =
-    named_modules (length msf.file) (symbols_in msf front.global_symbols)
+    named_modules (length msf.file) (symbol_stream msf front.global_symbols)
     (modules_read msf (module_streams front.modules))
 
 -- the modules of a header, none where that can't be read
@@ -143,7 +143,7 @@ modules_by msf (Err fault) = []
 
 -- the modules of a file by its header
 infos_with : (msf : Msf) (front : Result DebugHeader StreamError)
-    → named_modules (length msf.file) (front >>= λ h. symbols_in msf h.global_symbols)
+    → named_modules (length msf.file) (front >>= λ h. symbol_stream msf h.global_symbols)
     (modules_read msf (streams_by front)) ≡ modules_by msf front
 unfolding named_modules modules_read
 infos_with msf (Ok front) = refl
@@ -158,7 +158,7 @@ pub record SameBounds (msf : Msf) (room : ℕ) (front : DebugHeader) : Type 0 wh
   pub places : places_within msf (length msf.file) (module_streams front.modules)
       ≡ places_within msf room (module_streams front.modules)
   pub names : modules_of msf front
-      ≡ named_modules room (symbols_in msf front.global_symbols) (modules_read msf (module_streams front.modules))
+      ≡ named_modules room (symbol_stream msf front.global_symbols) (modules_read msf (module_streams front.modules))
 
 -- the same for whatever header the debug information has
 abbrev pub AllSameBounds : Msf → ℕ → Type 0
@@ -168,7 +168,7 @@ AllSameBounds msf room = (front : DebugHeader) → debug_header msf ≡ Ok front
 bounds_by_length : (msf : Msf) (room : ℕ) → length msf.file ≡ room → AllSameBounds msf room
 bounds_by_length msf room same front is = record {
   places = ap (λ left. places_within msf left (module_streams front.modules)) same;
-  names = ap (λ n. named_modules n (symbols_in msf front.global_symbols)
+  names = ap (λ n. named_modules n (symbol_stream msf front.global_symbols)
       (modules_read msf (module_streams front.modules))) same;
 }
 
@@ -211,7 +211,7 @@ modules_of_same a b same front bounds =
     bounds.names
     ∙ ap (λ globals. named_modules (length b.file) globals (modules_read a (module_streams front.modules)))
     (symbols_in_same a b same front.global_symbols)
-    ∙ ap (named_modules (length b.file) (symbols_in b front.global_symbols))
+    ∙ ap (named_modules (length b.file) (symbol_stream b front.global_symbols))
     (modules_read_same a b same (module_streams front.modules) bounds.places)
 
 modules_by_same : (a b : Msf) → SameStreams a b → AllSameBounds a (length b.file)
@@ -229,8 +229,8 @@ pub identity_same : (a b : Msf) → SameStreams a b → identity a ≡ identity 
 unfolding identity debug_build
 identity_same a b same =
     ap (λ bytes. option_map (identity_by (option_map build_of (result_ok (bytes >>= header))))
-    (option_and_then info_front (result_ok (stream_of a 1)))) (same.streams 3)
-    ∙ ap (λ bytes. option_map (identity_by (debug_build b)) (option_and_then info_front (result_ok bytes)))
+    (option_and_then info_header (result_ok (stream_of a 1)))) (same.streams 3)
+    ∙ ap (λ bytes. option_map (identity_by (debug_build b)) (option_and_then info_header (result_ok bytes)))
     (same.streams 1)
 
 -- the types
@@ -279,10 +279,10 @@ inside_same size old new (number ∷ numbers) room =
 
 -- blocks that are the same are so in order
 order_same : (size : ℕ) (old new numbers : List ℕ) → All (λ x. block size old x ≡ block size new x) numbers
-    → in_order size old numbers ≡ in_order size new numbers
+    → bytes_of_blocks size old numbers ≡ bytes_of_blocks size new numbers
 order_same size old new [] same = refl
 order_same size old new (number ∷ numbers) same =
-    ap (λ bytes. bytes ++ in_order size old numbers) (same 0 number (omega arith))
+    ap (λ bytes. bytes ++ bytes_of_blocks size old numbers) (same 0 number (omega arith))
     ∙ ap (λ rest. block size new number ++ rest)
     (order_same size old new numbers (λ k d below. same (suc k) d (omega (arith, below))))
 

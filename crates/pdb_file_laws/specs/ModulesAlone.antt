@@ -2,7 +2,7 @@
 use Rattle.std.specs.Prelude.{◌≡◌, ℕ, [], slice_get, Some}
 use Rattle.pdb_msf.specs.Msf.{Msf}
 use Rattle.pdb_container.specs.DebugRecords.{module_infos, streams_of_modules}
-use Rattle.pdb_container.specs.Functions.{symbols_of}
+use Rattle.pdb_container.specs.FunctionsByStart.{symbols_of}
 use Rattle.pdb_container.specs.ModulePlaces.{module_at}
 use Rattle.pdb_container.specs.UnnamedCode.{code_of_module}
 

@@ -2,10 +2,10 @@
 use Rattle.std.specs.Prelude.{◌≡◌, ℕ, Some, Ok}
 use Rattle.pdb_msf.specs.Msf.{Msf, stream_of}
 use Rattle.pdb_dbi.specs.OptionalStreams.{optional_stream, stream_number}
-use Rattle.pdb_dbi.specs.declared.header.DebugHeader.{DebugHeader}
+use Rattle.pdb_dbi.specs.declared.debug_header.DebugHeader.{DebugHeader}
 use Rattle.pdb_container.specs.DebugRecords.{debug_header}
 use Rattle.pdb_container.specs.Info.{named_stream}
-use Rattle.pdb_container.specs.Strings.{names_name}
+use Rattle.pdb_container.specs.NameStream.{names_name}
 
 -- two containers have streams of the same sizes, and the same bytes of the info stream, of the stream of debug
 -- information, and of the streams that these two name for symbols, for section headers and for texts

@@ -5,11 +5,11 @@ use Rattle.std.specs.Option.{option_or}
 use Rattle.pdb_msf.specs.Msf.{Msf, size_of, stream_blocks, stream_of}
 use Rattle.pdb_msf.specs.Streams.{block}
 use Rattle.pdb_codeview.specs.Places.{place}
-use Rattle.pdb_dbi.specs.declared.header.DebugHeader.{DebugHeader}
-use Rattle.pdb_dbi.specs.declared.module_list.ModuleStream.{ModuleStream}
-use Rattle.pdb_dbi.specs.ModuleList.{module_streams}
-use Rattle.pdb_container.specs.DebugRecords.{debug_header, symbols_in}
-use Rattle.pdb_container.specs.Functions.{FunctionStart, any_function}
+use Rattle.pdb_dbi.specs.declared.debug_header.DebugHeader.{DebugHeader}
+use Rattle.pdb_dbi.specs.declared.module_substream.ModuleStream.{ModuleStream}
+use Rattle.pdb_dbi.specs.ModuleSubstream.{module_streams}
+use Rattle.pdb_container.specs.DebugRecords.{debug_header, symbol_stream}
+use Rattle.pdb_container.specs.FunctionsByStart.{FunctionStart, any_function}
 use Rattle.pdb_container.specs.ModulePlaces.{bytes_read, modules_read}
 use Rattle.pdb_container.specs.UnnamedCode.{CodeOfModule, code_from}
 
@@ -57,7 +57,7 @@ name_bytes function_there (code ∷ codes) =
 pub record HasRoom (msf : Msf) (front : DebugHeader) : Type 0 where
   pub modules : module_bytes msf (module_streams front.modules) ≤ length msf.file
   pub names : name_bytes
-      (any_function (modules_read msf (module_streams front.modules)) (symbols_in msf front.global_symbols))
+      (any_function (modules_read msf (module_streams front.modules)) (symbol_stream msf front.global_symbols))
       (code_from 0 (modules_read msf (module_streams front.modules))) ≤ length msf.file
 
 -- a file has room, where it has debug information

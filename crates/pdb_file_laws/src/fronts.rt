@@ -3,7 +3,7 @@
 ghost use Rattle.std.specs.Prelude.{◌≡◌, ℕ, List};
 ghost use Rattle.pdb_records.specs.Records.{Records};
 ghost use Rattle.pdb_msf.specs.Msf.{Msf};
-ghost use Rattle.pdb_dbi.specs.declared.module_list.ModuleStream.{ModuleStream};
+ghost use Rattle.pdb_dbi.specs.declared.module_substream.ModuleStream.{ModuleStream};
 ghost use Rattle.pdb_container.specs.DebugRecords.{streams_of_modules};
 ghost use Rattle.pdb_container.specs.ModulePlaces.{places_within};
 ghost use Rattle.pdb_container.specs.Front.{HasFront};

@@ -4,5 +4,5 @@
 #![tactic(auto)]
 
 pub mod fronts;
-pub mod modules;
-pub mod streams;
+pub mod module_laws;
+pub mod stream_laws;

@@ -12,7 +12,7 @@ use Rattle.pdb_frame_data.specs.StackWinText.{code_fields, size_fields}
 use Rattle.pdb_frame_data.specs.declared.fpo_data.FpoData.{FpoData}
 use Rattle.pdb_frame_data.specs.declared.fpo_data.FrameType.TheVariants.{Tss}
 use Rattle.pdb_frame_data.specs.declared.frame_data.FrameData.{FrameData}
-use Rattle.pdb_frame_data.specs.declared.refusals.Refusal.TheVariants.{BadProgram, Empty, LongProgram, NoProgram, TooLarge}
+use Rattle.pdb_frame_data.specs.declared.omitted_frame_data.FrameDataError.TheVariants.{BadProgram, Empty, LongProgram, NoProgram, TooLarge}
 
 -- numbers below 65536, as two and four bytes
 abbrev two : ℕ → ℕ → List ℕ
@@ -42,7 +42,7 @@ entry = record {
 entry_is_read : frame_data entry_bytes ≡ entry
 entry_is_read = refl
 
--- an entry stands first, or behind four bytes
+-- an entry stands first, or after four bytes
 entry_stands_first : frame_data_list entry_bytes ≡ record { items = entry ∷ []; fault = None }
 unfolding all_items
 entry_stands_first = refl
@@ -71,7 +71,7 @@ fpo = record {
 fpo_is_read : fpo_data fpo_bytes ≡ fpo
 fpo_is_read = refl
 
--- program strings behind twelve bytes: an empty one, one that moves the return address up, and one with a line break
+-- program strings after twelve bytes: an empty one, one that moves the return address up, and one with a line break
 abbrev strings : List ℕ
 strings = replicate 12 7 ++ (0 ∷ codes "$eip $T0 ^ = " ++ (0 ∷ codes "a" ++ (10 ∷ 0 ∷ 65 ∷ [])))
 

@@ -6,7 +6,7 @@ use Rattle.pdb_msf.specs.NumberLists.{number, two_byte_number}
 use Rattle.pdb_frame_data.specs.declared.frame_data.FrameData.{FrameData}
 
 -- an entry: ulRvaStart, cbBlock, cbLocals, cbParams, cbStkMax and frameFunc, four bytes each, then cbProlog and
--- cbSavedRegs, two bytes each; the flags behind them aren't read
+-- cbSavedRegs, two bytes each; the flags after them aren't read
 abbrev pub frame_data : List ℕ → FrameData
 frame_data bytes = record {
   rva = number (drop 0 bytes);
@@ -19,7 +19,7 @@ frame_data bytes = record {
   saved_register_size = two_byte_number (drop 26 bytes);
 }
 
--- where the entries of a stream begin: behind four bytes, unless its length is a multiple of an entry's
+-- where the entries of a stream begin: after four bytes, unless its length is a multiple of an entry's
 abbrev pub aligned : List ℕ → List ℕ
 aligned stream = if length stream % 32 == 0 then stream else drop 4 stream
 

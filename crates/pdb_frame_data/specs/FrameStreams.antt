@@ -3,10 +3,10 @@ use Rattle.std.specs.Prelude.{ℕ, List, [], Option, Some, None, Result, Ok, Err
 use Rattle.pdb_records.specs.declared.error.StreamError.{StreamError}
 use Rattle.pdb_msf.specs.Faults.{◌>>=◌}
 use Rattle.pdb_msf.specs.Msf.{Msf, stream_of}
-use Rattle.pdb_dbi.specs.Header.{header}
+use Rattle.pdb_dbi.specs.DebugHeader.{header}
 use Rattle.pdb_dbi.specs.OptionalStreams.{optional_stream}
 use Rattle.pdb_container.specs.Info.{named_stream}
-use Rattle.pdb_container.specs.Strings.{names_name}
+use Rattle.pdb_container.specs.NameStream.{names_name}
 
 -- the bytes of a stream that not every file has
 abbrev pub optional_bytes : Msf → Option ℕ → Result (List ℕ) StreamError

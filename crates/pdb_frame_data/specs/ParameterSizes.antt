@@ -12,7 +12,7 @@ fpo_segment entry = record { start = entry.rva; end = entry.rva + entry.size; va
 abbrev pub frame_data_segment : FrameData → Segment ℕ
 frame_data_segment entry = record { start = entry.rva; end = entry.rva + entry.size; value = entry.parameter_size }
 
--- the sizes in the order in which they are painted: those of FPO data, and behind them those of frame data, which count
+-- the sizes in the order in which they are painted: those of FPO data, and after them those of frame data, which count
 -- where both cover an address
 abbrev pub parameter_sizes : List FpoData → List FrameData → List (Segment ℕ)
 parameter_sizes fpo frame_data = map fpo_segment fpo ++ map frame_data_segment frame_data

@@ -17,15 +17,15 @@ use Rattle.pdb_frame_data.specs.ParameterSizes.{parameter_sizes}
 use Rattle.pdb_frame_data.specs.StackWinText.{fpo_text, frame_data_text}
 use Rattle.pdb_frame_data.specs.declared.fpo_data.FpoData.{FpoData}
 use Rattle.pdb_frame_data.specs.declared.frame_data.FrameData.{FrameData}
-use Rattle.pdb_frame_data.specs.declared.refusals.LeftOut.{LeftOut}
-use Rattle.pdb_frame_data.specs.declared.refusals.Refusal.{Refusal}
-use Rattle.pdb_frame_data.specs.declared.refusals.Refusal.TheVariants.{BadProgram, Empty, LongProgram, NoProgram, TooLarge}
+use Rattle.pdb_frame_data.specs.declared.omitted_frame_data.OmittedFrameData.{OmittedFrameData}
+use Rattle.pdb_frame_data.specs.declared.omitted_frame_data.FrameDataError.{FrameDataError}
+use Rattle.pdb_frame_data.specs.declared.omitted_frame_data.FrameDataError.TheVariants.{BadProgram, Empty, LongProgram, NoProgram, TooLarge}
 
 -- records: their text, the entries that have none, why frame data and FPO data end early, and how many bytes of
 -- parameters code takes
 pub record Records : Type 0 where
   pub text : List ℕ
-  pub left_out : List LeftOut
+  pub left_out : List OmittedFrameData
   pub frame_data_fault : Option StreamError
   pub fpo_fault : Option StreamError
   pub parameter_sizes : List (Segment ℕ)
@@ -36,7 +36,7 @@ entries_of entries (Ok bytes) = entries bytes
 entries_of entries (Err error) = nothing_read (Some error)
 
 -- why code at this address and of this size has no record: there is none of it, or it reaches past 32 bits
-abbrev pub code_fault : ℕ → ℕ → Option Refusal
+abbrev pub code_fault : ℕ → ℕ → Option FrameDataError
 code_fault rva size =
     if size == 0 then Some Empty else if nat_lt (2 ^ 32) (rva + size) then Some TooLarge else None
 
@@ -45,7 +45,7 @@ abbrev pub is_printed : ℕ → Bool
 is_printed byte = nat_le 0x20 byte
 
 -- bytes as a text of one line, if they are one
-abbrev pub text_of : List ℕ → Result (List ℕ) Refusal
+abbrev pub text_of : List ℕ → Result (List ℕ) FrameDataError
 text_of bytes = if list_all is_printed bytes && is_utf8 bytes then Ok bytes else Err BadProgram
 
 -- in how many bytes a program string has to end, with its zero; many entries may name one string, so a long one would make
@@ -54,35 +54,35 @@ abbrev pub most_program : ℕ
 most_program = 4096
 
 -- the program before a zero among the first bytes; without one it is longer than these, or isn't there
-abbrev pub program_by : List ℕ → Option (List ℕ) → Result (List ℕ) Refusal
+abbrev pub program_by : List ℕ → Option (List ℕ) → Result (List ℕ) FrameDataError
 program_by rest None = if nat_lt (length rest) most_program then Err NoProgram else Err LongProgram
 program_by rest (Some bytes) = text_of bytes
 
 -- the program at the beginning of these bytes
-abbrev pub program_in : List ℕ → Result (List ℕ) Refusal
+abbrev pub program_in : List ℕ → Result (List ℕ) FrameDataError
 program_in rest = program_by rest (text_in (take most_program rest))
 
 -- a program, unless the code has no record
-abbrev pub unless_refused : Option Refusal → Result (List ℕ) Refusal → Result (List ℕ) Refusal
+abbrev pub unless_refused : Option FrameDataError → Result (List ℕ) FrameDataError → Result (List ℕ) FrameDataError
 unless_refused None program = program
 unless_refused (Some why) program = Err why
 
--- the program of frame data: the text at its offset behind the first twelve bytes of the strings, up to a zero
-abbrev pub frame_program : List ℕ → FrameData → Result (List ℕ) Refusal
+-- the program of frame data: the text at its offset after the first twelve bytes of the strings, up to a zero
+abbrev pub frame_program : List ℕ → FrameData → Result (List ℕ) FrameDataError
 frame_program strings entry =
     unless_refused (code_fault entry.rva entry.size) (program_in (drop (12 + entry.program) strings))
 
 -- a text that a call answers, as bytes
-abbrev pub text_seen : Result (Bor (List ℕ)) Refusal → Result (List ℕ) Refusal
+abbrev pub text_seen : Result (Bor (List ℕ)) FrameDataError → Result (List ℕ) FrameDataError
 text_seen (Ok text) = Ok text.now
 text_seen (Err why) = Err why
 
 -- an entry is left out
-abbrev pub leave_out : ℕ → Refusal → Records → Records
+abbrev pub leave_out : ℕ → FrameDataError → Records → Records
 leave_out rva why r = record r { left_out = r.left_out ++ record { rva = rva; why = why } ∷ [] }
 
 -- the text of a record is added, or else its entry is left out
-abbrev pub add : ℕ → Result (List ℕ) Refusal → (List ℕ → List ℕ) → Records → Records
+abbrev pub add : ℕ → Result (List ℕ) FrameDataError → (List ℕ → List ℕ) → Records → Records
 add rva (Ok program) text r = record r { text = r.text ++ text program }
 add rva (Err why) text r = leave_out rva why r
 
@@ -124,6 +124,6 @@ abbrev pub records_by : Result (List ℕ) StreamError → Result (List ℕ) Stre
 records_by frame_data fpo strings =
     records_of (entries_of frame_data_list frame_data) (entries_of fpo_data_list fpo) strings
 
--- the records of a file: those of its frame data, and behind them those of its FPO data
+-- the records of a file: those of its frame data, and after them those of its FPO data
 unfoldable pub stack_win : Msf → Records
 stack_win msf = records_by (frame_stream msf 9) (frame_stream msf 0) (program_strings msf)

@@ -7,7 +7,7 @@ use Rattle.pdb_frame_data.specs.declared.fpo_data.FrameType.TheVariants.{Fpo, No
 use Rattle.pdb_frame_data.specs.declared.frame_data.FrameData.{FrameData}
 use Rattle.pdb_frame_data.specs.declared.stack_win_text.FrameSizes.{FrameSizes}
 
--- a number behind a space
+-- a number after a space
 abbrev pub field : ℕ → List ℕ
 field number = codes " " ++ digits 16 false number
 
@@ -31,7 +31,7 @@ frame_data_sizes entry = record {
   max_stack = entry.max_stack_size;
 }
 
--- a program, which ends the line, behind a 1 that says that there is one
+-- a program, which ends the line, after a 1 that says that there is one
 abbrev pub program_field : List ℕ → List ℕ
 program_field program = codes " 1 " ++ (program ++ codes "\n")
 

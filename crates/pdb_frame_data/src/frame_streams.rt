@@ -3,11 +3,11 @@
 ghost use Rattle.std.specs.Prelude.{◌≡◌, ◌≤◌, IfErr, IfOk};
 ghost use Rattle.pdb_frame_data.specs.FrameStreams.{frame_stream, program_strings};
 ghost use Rattle.pdb_msf.specs.Msf.{stream_of};
-ghost use Rattle.pdb_msf.specs.StreamMap.{IfFile, bytes_read, with_bytes};
+ghost use Rattle.pdb_msf.specs.MsfLayout.{IfFile, bytes_read, with_bytes};
 
 use pdb_container::parts::{DEBUG, INFO, InfoStream, NAMES};
 use pdb_dbi::{optional_stream, read_header};
-use pdb_msf::{Excerpt, Source, SourceFault, StreamMap};
+use pdb_msf::{MsfLayout, Source, SourceError, StreamSubset};
 use pdb_records::StreamError;
 use std::alloc::Global;
 
@@ -22,7 +22,7 @@ const FRAME_DATA: usize = 9;
 pub(crate) struct FrameStreams {
     pub(crate) frame_data: Result<Vec<u8>, StreamError>,
     pub(crate) fpo: Result<Vec<u8>, StreamError>,
-    /// Each program is at its offset behind twelve bytes, and ends before a zero.
+    /// Each program is at its offset after twelve bytes, and ends before a zero.
     pub(crate) strings: Vec<u8>,
 }
 
@@ -30,16 +30,16 @@ impl FrameStreams {
     /// Reads the streams of a file.
     pub(crate) fn read<S: Source>(
         alloc: Global,
-        map: &StreamMap,
+        map: &MsfLayout,
         source: &mut S,
-    ) -> Result<Self, SourceFault>
+    ) -> Result<Self, SourceError>
         ensures frame_data { IfOk result (λ streams. IfFile (S.bytes source.old) map.now.file_length (λ file.
             bytes_read streams.frame_data ≡ frame_stream (with_bytes file map.now) 9)) }
         ensures fpo { IfOk result (λ streams. IfFile (S.bytes source.old) map.now.file_length (λ file.
             bytes_read streams.fpo ≡ frame_stream (with_bytes file map.now) 0)) }
         ensures strings { IfOk result (λ streams. IfFile (S.bytes source.old) map.now.file_length (λ file.
             streams.strings.items ≡ program_strings (with_bytes file map.now))) }
-        ensures refused { IfErr result (λ fault. fault ≡ SourceFault.Unreadable
+        ensures refused { IfErr result (λ fault. fault ≡ SourceError.Unreadable
             → S.refuses_from source.old ≤ map.now.file_length) }
         ensures inputs { S.bytes source.new ≡ S.bytes source.old }
         ensures refusals { S.refuses_from source.new ≡ S.refuses_from source.old }
@@ -58,15 +58,15 @@ impl FrameStreams {
 #[tactic(auto, unfolding(crate::specs::FrameStreams::frame_stream))]
 fn read_optional<S: Source>(
     alloc: Global,
-    map: &StreamMap,
+    map: &MsfLayout,
     source: &mut S,
     debug: &Result<Vec<u8>, StreamError>,
     position: usize,
-) -> Result<Result<Vec<u8>, StreamError>, SourceFault>
+) -> Result<Result<Vec<u8>, StreamError>, SourceError>
     ensures answer { IfOk result (λ read. IfFile (S.bytes source.old) map.now.file_length (λ file.
         stream_of (with_bytes file map.now) 3 ≡ bytes_read debug.now
         → bytes_read read ≡ frame_stream (with_bytes file map.now) position)) }
-    ensures refused { IfErr result (λ fault. fault ≡ SourceFault.Unreadable
+    ensures refused { IfErr result (λ fault. fault ≡ SourceError.Unreadable
         → S.refuses_from source.old ≤ map.now.file_length) }
     ensures inputs { S.bytes source.new ≡ S.bytes source.old }
     ensures refusals { S.refuses_from source.new ≡ S.refuses_from source.old }
@@ -89,22 +89,22 @@ fn read_optional<S: Source>(
 #[tactic(auto, unfolding(crate::specs::FrameStreams::program_strings))]
 fn read_strings<S: Source>(
     alloc: Global,
-    map: &StreamMap,
+    map: &MsfLayout,
     source: &mut S,
-) -> Result<Vec<u8>, SourceFault>
+) -> Result<Vec<u8>, SourceError>
     ensures answer { IfOk result (λ strings. IfFile (S.bytes source.old) map.now.file_length (λ file.
         strings.items ≡ program_strings (with_bytes file map.now))) }
-    ensures refused { IfErr result (λ fault. fault ≡ SourceFault.Unreadable
+    ensures refused { IfErr result (λ fault. fault ≡ SourceError.Unreadable
         → S.refuses_from source.old ≤ map.now.file_length) }
     ensures inputs { S.bytes source.new ≡ S.bytes source.old }
     ensures refusals { S.refuses_from source.new ≡ S.refuses_from source.old }
 {
-    let mut excerpt = Excerpt::new(alloc, map)?;
+    let mut excerpt = StreamSubset::new(alloc, map)?;
     excerpt.add(alloc, map, source, INFO)?;
     let container = excerpt.container(alloc)?;
     let info = match InfoStream::read(alloc, &container) {
         Ok(info) => info,
-        Err(_) => return Err(SourceFault::OutOfMemory),
+        Err(_) => return Err(SourceError::OutOfMemory),
     };
     let Ok(number) = info.named_stream(&NAMES) else {
         return Ok(Vec::new(alloc));

@@ -8,12 +8,12 @@
 mod fpo_data;
 mod frame_data;
 mod frame_streams;
+mod omitted_frame_data;
 mod parameter_sizes;
-mod refusals;
 mod stack_win;
 mod stack_win_text;
 
 pub use fpo_data::{FpoData, FrameType, read_fpo_data};
 pub use frame_data::{FrameData, read_frame_data};
-pub use refusals::{LeftOut, Refusal};
+pub use omitted_frame_data::{FrameDataError, OmittedFrameData};
 pub use stack_win::{StackWinRecords, read_stack_win};

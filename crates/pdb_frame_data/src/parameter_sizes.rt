@@ -8,7 +8,7 @@ use crate::frame_data::FrameData;
 use pdb_tables::Segment;
 use std::alloc::{AllocError, Global};
 
-/// The size of the parameters over the addresses of each entry: those of FPO data, and behind them those of frame data,
+/// The size of the parameters over the addresses of each entry: those of FPO data, and after them those of frame data,
 /// which count where both cover an address.
 pub(crate) fn parameter_sizes(
     alloc: Global,

@@ -6,15 +6,15 @@ ghost use Rattle.pdb_container.specs.DebugRecords.{of_file};
 ghost use Rattle.pdb_frame_data.specs.StackWin.{add_fpo, add_frame_data, code_fault, frame_program, is_printed};
 ghost use Rattle.pdb_frame_data.specs.StackWin.{leave_out, program_in, records_by, stack_win, text_of, text_seen, with_fpo};
 ghost use Rattle.pdb_frame_data.specs.StackWin.{with_frame_data};
-ghost use Rattle.pdb_msf.specs.StreamMap.{IfFile, Reads, bytes_read};
+ghost use Rattle.pdb_msf.specs.MsfLayout.{IfFile, Reads, bytes_read};
 
 use crate::fpo_data::{FpoData, read_fpo_data};
 use crate::frame_data::{FrameData, read_frame_data};
 use crate::frame_streams::FrameStreams;
+use crate::omitted_frame_data::{FrameDataError, OmittedFrameData};
 use crate::parameter_sizes::parameter_sizes;
-use crate::refusals::{LeftOut, Refusal};
 use crate::stack_win_text::{push_fpo, push_frame_data};
-use pdb_msf::{Bytes, ContainerFault, OpenFault, Source, StreamMap, bytes_from, nothing_read};
+use pdb_msf::{Bytes, ContainerError, MsfLayout, OpenError, Source, bytes_from, nothing_read};
 use pdb_records::StreamError;
 use pdb_tables::Segment;
 use std::alloc::{AllocError, Global};
@@ -32,7 +32,7 @@ pub struct StackWinRecords {
     /// A line for each record.
     pub text: String,
     /// The entries that have no record, in their order.
-    pub left_out: Vec<LeftOut>,
+    pub left_out: Vec<OmittedFrameData>,
     /// Why the frame data ends early, if it does.
     pub frame_data_fault: Option<StreamError>,
     /// Why the FPO data ends early, if it does.
@@ -56,26 +56,26 @@ impl Model for StackWinRecords {
     } };
 }
 
-/// The STACK WIN records of a PDB file of this length: those of its frame data, and behind them those of its FPO data. Files
+/// The STACK WIN records of a PDB file of this length: those of its frame data, and after them those of its FPO data. Files
 /// of programs for other machines than x86 have neither. The errors are those of
-/// [`StreamMap::read`](pdb_msf::StreamMap::read).
+/// [`MsfLayout::read`](pdb_msf::MsfLayout::read).
 #[tactic(auto, unfolding(crate::specs::StackWin::stack_win))]
 pub fn read_stack_win<S: Source>(
     alloc: Global,
     source: &mut S,
     file_length: usize,
-) -> Result<StackWinRecords, OpenFault>
+) -> Result<StackWinRecords, OpenError>
     ensures answer { IfFile (S.bytes source.old) file_length (λ file.
         Reads (λ records. records) result (of_file stack_win file)) }
-    ensures refused { IfErr result (λ fault. fault ≡ OpenFault.Unreadable → S.refuses_from source.old ≤ file_length) }
+    ensures refused { IfErr result (λ fault. fault ≡ OpenError.Unreadable → S.refuses_from source.old ≤ file_length) }
     ensures inputs { S.bytes source.new ≡ S.bytes source.old }
     ensures refusals { S.refuses_from source.new ≡ S.refuses_from source.old }
 {
-    let map = StreamMap::read(alloc, source, file_length)?;
+    let map = MsfLayout::read(alloc, source, file_length)?;
     let streams = FrameStreams::read(alloc, &map, source)?;
     match records_by(alloc, &streams) {
         Ok(records) => Ok(records),
-        Err(_) => Err(OpenFault::Container(ContainerFault::OutOfMemory)),
+        Err(_) => Err(OpenError::Container(ContainerError::OutOfMemory)),
     }
 }
 
@@ -153,28 +153,28 @@ fn add_fpo(records: &mut StackWinRecords, entry: FpoData) -> Result<(), AllocErr
 }
 
 // Leaves an entry out.
-fn leave_out(records: &mut StackWinRecords, rva: u32, why: Refusal) -> Result<(), AllocError>
+fn leave_out(records: &mut StackWinRecords, rva: u32, why: FrameDataError) -> Result<(), AllocError>
     ensures { OnOk result (records.new ≡ leave_out rva why records.old) }
 {
-    records.left_out.push(LeftOut { rva, why })?;
+    records.left_out.push(OmittedFrameData { rva, why })?;
     Ok(())
 }
 
 // Why code at this address and of this size has no record, if it has none.
-fn code_fault(rva: u32, size: u32) -> Option<Refusal>
+fn code_fault(rva: u32, size: u32) -> Option<FrameDataError>
     ensures { result ≡ code_fault rva size }
 {
     if size == 0 {
-        return Some(Refusal::Empty);
+        return Some(FrameDataError::Empty);
     }
     if u32::MAX - rva < size - 1 {
-        return Some(Refusal::TooLarge);
+        return Some(FrameDataError::TooLarge);
     }
     None
 }
 
 // The program of frame data, or why it has no record.
-fn frame_program(strings: &[u8], entry: FrameData) -> Result<&str, Refusal>
+fn frame_program(strings: &[u8], entry: FrameData) -> Result<&str, FrameDataError>
     ensures { text_seen result ≡ frame_program strings.now entry }
 {
     if let Some(why) = code_fault(entry.rva, entry.size) {
@@ -184,13 +184,13 @@ fn frame_program(strings: &[u8], entry: FrameData) -> Result<&str, Refusal>
 }
 
 // The program that these bytes begin with.
-fn program_in(rest: &[u8]) -> Result<&str, Refusal>
+fn program_in(rest: &[u8]) -> Result<&str, FrameDataError>
     ensures { text_seen result ≡ program_in rest.now }
 {
     match Bytes::new(first_bytes(rest, MOST_PROGRAM)).text() {
         Ok(program) => text_of(program),
-        Err(_) if rest.len() < MOST_PROGRAM => Err(Refusal::NoProgram),
-        Err(_) => Err(Refusal::LongProgram),
+        Err(_) if rest.len() < MOST_PROGRAM => Err(FrameDataError::NoProgram),
+        Err(_) => Err(FrameDataError::LongProgram),
     }
 }
 
@@ -207,15 +207,15 @@ fn first_bytes(bytes: &[u8], count: usize) -> &[u8]
 
 // These bytes as a text of one line.
 #[tactic(auto, using(crate::proofs::TextLemmas::by_utf8))]
-fn text_of(bytes: &[u8]) -> Result<&str, Refusal>
+fn text_of(bytes: &[u8]) -> Result<&str, FrameDataError>
     ensures { text_seen result ≡ text_of bytes.now }
 {
     if !is_line(bytes) {
-        return Err(Refusal::BadProgram);
+        return Err(FrameDataError::BadProgram);
     }
     match str::from_utf8(bytes) {
         Ok(text) => Ok(text),
-        Err(_) => Err(Refusal::BadProgram),
+        Err(_) => Err(FrameDataError::BadProgram),
     }
 }
 

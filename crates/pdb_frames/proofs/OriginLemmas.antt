@@ -6,17 +6,17 @@ use Rattle.pdb_records.specs.declared.lines.LineInfo.{LineInfo}
 use Rattle.pdb_records.specs.declared.modules.ModuleInfo.{ModuleInfo}
 use Rattle.pdb_errors.specs.Outcomes.{and_then}
 use Rattle.pdb_errors.specs.declared.error.Error.{Error}
-use Rattle.pdb_functions.specs.FoundFunctions.{FoundFunction, found_procedure, found_global, function_start}
+use Rattle.pdb_functions.specs.FunctionMatches.{FunctionMatch, found_procedure, found_global, function_start}
 use Rattle.pdb_inline.specs.InlineRanges.{procedure_inline_ranges}
 use Rattle.pdb_inline.specs.InlineStacks.{inline_stack}
 use Rattle.pdb_inline.specs.declared.inline_ranges.InlineRange.{InlineRange}
 use Rattle.pdb_frames.specs.CodeCaches.{function_stack}
 use Rattle.pdb_frames.specs.ExtendedInfo.{ExtendedInfo, extended_info}
 use Rattle.pdb_frames.specs.Lines.{function_row}
-use Rattle.pdb_frames.specs.Origins.{Origin, origin}
+use Rattle.pdb_frames.specs.CodeLocations.{CodeLocation, code_location}
 
 -- where code comes from, by its line program, row and stack
-abbrev origin_of : Lines → Option LineInfo → List InlineRange → Origin
+abbrev origin_of : Lines → Option LineInfo → List InlineRange → CodeLocation
 origin_of program row stack = record { line_program = program; row = row; stack = stack }
 
 -- the stack may be made before the origin
@@ -37,8 +37,8 @@ none_in_global program x (Err e) = refl
 none_in_global program x (Ok row) = refl
 
 -- where code comes from: its module's line program, then the row, and then the inlined bodies
-pub origin_by_stack : (info : ModuleInfo) (found : FoundFunction) (x : ℕ)
-    → origin info found x ≡ and_then (extended_info info)
+pub origin_by_stack : (info : ModuleInfo) (found : FunctionMatch) (x : ℕ)
+    → code_location info found x ≡ and_then (extended_info info)
     (λ known. and_then (function_row known.line_program (function_start found) x)
     (λ row. and_then (function_stack info found x)
     (λ stack. Ok (record { line_program = known.line_program; row = row; stack = stack }))))

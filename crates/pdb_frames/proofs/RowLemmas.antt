@@ -70,7 +70,7 @@ row_over-in_order x (row ∷ rows) =
     row_over-put x row (in_order row_before rows) ∙ ap (λ o. later (when (nat_le row.offset x) row) o)
     (row_over-in_order x rows)
 
--- behind a row, others of its offset are never picked
+-- after a row, others of its offset are never picked
 pick_first : (x : ℕ) (row : LineInfo) (rows : List LineInfo)
     → later (when (nat_le row.offset x) row) (row_over (first_rows_after (Some row.offset) rows) x)
     ≡ later (when (nat_le row.offset x) row) (row_over rows x)

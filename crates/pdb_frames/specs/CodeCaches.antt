@@ -8,7 +8,7 @@ use Rattle.pdb_records.specs.declared.lines.LineInfo.{LineInfo}
 use Rattle.pdb_records.specs.declared.modules.ModuleInfo.{ModuleInfo}
 use Rattle.pdb_errors.specs.Outcomes.{and_then, streamed}
 use Rattle.pdb_errors.specs.declared.error.Error.{Error}
-use Rattle.pdb_functions.specs.FoundFunctions.{FoundFunction, found_procedure, found_global}
+use Rattle.pdb_functions.specs.FunctionMatches.{FunctionMatch, found_procedure, found_global}
 use Rattle.pdb_inline.specs.InlineRanges.{procedure_inline_ranges}
 use Rattle.pdb_inline.specs.InlineStacks.{inline_stack}
 use Rattle.pdb_inline.specs.declared.inline_ranges.InlineRange.{InlineRange}
@@ -62,7 +62,7 @@ abbrev pub procedure_stack : ModuleInfo → ℕ → ℕ → ℕ → Result (List
 procedure_stack info symbol end x = and_then (procedure_ranges info symbol end) (λ ranges. Ok (inline_stack ranges x))
 
 -- the inlined bodies over an offset of a function: a global function has none
-abbrev pub function_stack : ModuleInfo → FoundFunction → ℕ → Result (List InlineRange) Error
+abbrev pub function_stack : ModuleInfo → FunctionMatch → ℕ → Result (List InlineRange) Error
 function_stack info (found_global m f) x = Ok []
 function_stack info (found_procedure m p) x = procedure_stack info p.symbol_index.0 p.end_symbol_index.0 x
 

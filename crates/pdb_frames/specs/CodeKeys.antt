@@ -6,15 +6,15 @@ use Rattle.std.specs.FinMap.{IsAntisymmetric}
 use Rattle.pdb_frames.specs.CodeCaches.{function_cmp, procedure_cmp}
 
 -- only equal functions tie
-pub function_cmp-apart : IsAntisymmetric function_cmp
-function_cmp-apart a b tied =
+pub function_cmp-IsAntisymmetric : IsAntisymmetric function_cmp
+function_cmp-IsAntisymmetric a b tied =
     ap (λ key. record { module_index = key.0; section = key.1.0; offset = key.1.1 })
     (exact_pairs nat_cmp _ exact_unsigned (exact_pairs nat_cmp nat_cmp exact_unsigned exact_unsigned)
     (a.module_index, (a.section, a.offset)) (b.module_index, (b.section, b.offset)) tied)
 
 -- only equal procedures tie
-pub procedure_cmp-apart : IsAntisymmetric procedure_cmp
-procedure_cmp-apart a b tied =
+pub procedure_cmp-IsAntisymmetric : IsAntisymmetric procedure_cmp
+procedure_cmp-IsAntisymmetric a b tied =
     ap (λ key. record { module_index = key.0; symbol = key.1.0; end = key.1.1 })
     (exact_pairs nat_cmp _ exact_unsigned (exact_pairs nat_cmp nat_cmp exact_unsigned exact_unsigned)
     (a.module_index, (a.symbol, a.end)) (b.module_index, (b.symbol, b.end)) tied)

@@ -12,7 +12,7 @@ use Rattle.pdb_errors.specs.declared.error.Error.{Error}
 use Rattle.pdb_errors.specs.declared.error.Error.TheVariants.{ExtendedModuleInfoUnsuccessful}
 use Rattle.pdb_errors.specs.declared.error.Error.TheVariants.{ProcedureLinesUnsuccessful}
 use Rattle.pdb_errors.specs.declared.error.Error.TheVariants.{ProcedureInlineRangesUnsuccessful}
-use Rattle.pdb_functions.specs.FoundFunctions.{FoundFunction, function_module, function_start}
+use Rattle.pdb_functions.specs.FunctionMatches.{FunctionMatch, function_module, function_start}
 use Rattle.pdb_functions.specs.Starts.{section_offset_cmp}
 use Rattle.pdb_frames.specs.ExtendedInfo.{extended_info}
 use Rattle.pdb_frames.specs.Lines.{function_rows}
@@ -71,7 +71,7 @@ blame_after_info m start (Err e) = part.ExtendedInfo m
 
 -- the part that is to blame where it is refused where a function's code comes from: what is known of the module's code,
 -- then the function's lines, then its inline ranges
-abbrev pub part_to_blame : ModuleInfo → FoundFunction → CodePart
+abbrev pub part_to_blame : ModuleInfo → FunctionMatch → CodePart
 part_to_blame info found =
     let program = and_then (extended_info info) (λ known. Ok known.line_program) in
     blame_after_info (function_module found) (function_start found) program

@@ -12,6 +12,6 @@ use Rattle.pdb_frames.specs.Lines.{read_whole, row_over}
 abbrev pub OffsetsAscend : List LineInfo → Type 0
 OffsetsAscend rows = KeysAscend nat_cmp (λ row. row.offset) rows
 
--- the row over an offset, of rows that were read; refused for the fault that stands behind them
+-- the row over an offset, of rows that were read; refused for the fault that stands after them
 abbrev pub row_in : Read LineInfo → ℕ → Result (Option LineInfo) Error
 row_in rows x = and_then (read_whole rows) (λ whole. Ok (row_over whole x))

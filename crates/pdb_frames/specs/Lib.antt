@@ -3,7 +3,7 @@ pub mod Lines
 pub mod FileNames
 pub mod FunctionRows
 pub mod ExtendedInfo
-pub mod Origins
+pub mod CodeLocations
 pub mod CodeParts
 pub mod Frame
 pub mod CodeCaches

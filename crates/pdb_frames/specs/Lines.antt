@@ -16,7 +16,7 @@ use Rattle.pdb_errors.specs.Outcomes.{unless, and_then}
 use Rattle.pdb_tables.specs.Pick.{pick}
 use Rattle.pdb_frames.specs.SourceFiles.{FileName, as_file_name}
 
--- the entries of a list that was read to its end; refused for the fault where one stands behind them
+-- the entries of a list that was read to its end; refused for the fault where one stands after them
 abbrev pub read_whole : {T : Type 0} → Read T → Result (List T) Error
 read_whole list = unless (option_map (λ fault. PdbError (Stream fault)) list.fault) (Ok list.items)
 

@@ -2,21 +2,21 @@
 
 ghost use Rattle.std.specs.Prelude.{◌≡◌, Some, Ok, IfOk};
 ghost use Rattle.pdb_errors.specs.Outcomes.{Gives, and_then};
-ghost use Rattle.pdb_functions.specs.FoundFunctions.{found_function, function_module};
+ghost use Rattle.pdb_functions.specs.FunctionMatches.{function_match, function_module};
 ghost use Rattle.pdb_frames.specs.ExtendedInfo.{extended_info};
 ghost use Rattle.pdb_frames.specs.Lines.{function_row};
 ghost use Rattle.pdb_frames.specs.CodeCaches.{ModuleRecords, HasProgram, function_stack};
 ghost use Rattle.pdb_frames.specs.CodeCache.{IsCodeCache};
 ghost use Rattle.pdb_frames.specs.CodeParts.{blame_after_info, part_to_blame};
-ghost use Rattle.pdb_frames.specs.Origins.{origin_view, origin};
+ghost use Rattle.pdb_frames.specs.CodeLocations.{code_location_view, code_location};
 
+use crate::code_locations::CodeLocation;
 use crate::code_parts::CodePart;
 use crate::extended_infos::ExtendedInfos;
 use crate::function_lines::FunctionLines;
-use crate::origins::Origin;
 use crate::procedure_ranges::ProcedureRanges;
 use pdb_errors::Result;
-use pdb_functions::FoundFunction;
+use pdb_functions::FunctionMatch;
 use pdb_inline::InlineRange;
 use pdb_records::{LineInfo, LineProgram, ModuleInfo, PdbInternalSectionOffset};
 use std::alloc::{AllocError, Global};
@@ -63,23 +63,23 @@ impl<'a> CodeCache<'a> {
     /// [`Error::PdbError`](pdb_errors::Error::PdbError) for what is known of the module's code, then for the
     /// function's line rows, and then for its inline ranges.
     #[tactic(auto, using(crate::proofs::OriginLemmas::origin_by_stack))]
-    pub fn origin(
+    pub fn code_location(
         &mut self,
         module_info: &'a ModuleInfo,
-        function: FoundFunction<'_>,
+        function: FunctionMatch<'_>,
         offset: u32,
-    ) -> Result<Origin<'a>>
+    ) -> Result<CodeLocation<'a>>
         ghost records: { ModuleRecords }
         requires is_cache { IsCodeCache records self.old }
-        requires module_info { records (function_module (found_function function)) ≡ Some module_info.now }
-        ensures answer { Gives origin_view result (origin module_info.now (found_function function.entry) offset) }
+        requires module_info { records (function_module (function_match function)) ≡ Some module_info.now }
+        ensures answer { Gives code_location_view result (code_location module_info.now (function_match function.entry) offset) }
         ensures is_cache { IsCodeCache records self.new }
     {
         let module_index = function.module_index();
         let line_program = self.line_program(module_index, module_info)?;
         let row = self.row(module_index, line_program, function.start(), offset)?;
         let stack = self.stack(module_info, function, offset)?;
-        Ok(Origin {
+        Ok(CodeLocation {
             line_program,
             row,
             stack,
@@ -94,12 +94,12 @@ impl<'a> CodeCache<'a> {
     pub fn part_to_blame(
         &mut self,
         module_info: &'a ModuleInfo,
-        function: FoundFunction<'_>,
+        function: FunctionMatch<'_>,
     ) -> Result<CodePart, AllocError>
         ghost records: { ModuleRecords }
         requires is_cache { IsCodeCache records self.old }
-        requires module_info { records (function_module (found_function function)) ≡ Some module_info.now }
-        ensures answer { IfOk result (λ part. part ≡ part_to_blame module_info.now (found_function function.entry)) }
+        requires module_info { records (function_module (function_match function)) ≡ Some module_info.now }
+        ensures answer { IfOk result (λ part. part ≡ part_to_blame module_info.now (function_match function.entry)) }
         ensures is_cache { IsCodeCache records self.new }
     {
         let module_index = function.module_index();
@@ -175,19 +175,22 @@ impl<'a> CodeCache<'a> {
     fn stack(
         &mut self,
         module_info: &ModuleInfo,
-        function: FoundFunction<'_>,
+        function: FunctionMatch<'_>,
         offset: u32,
     ) -> Result<Vec<InlineRange>>
         ghost records: { ModuleRecords }
         requires is_cache { IsCodeCache records self.old }
-        requires module_info { records (function_module (found_function function)) ≡ Some module_info.now }
+        requires module_info { records (function_module (function_match function)) ≡ Some module_info.now }
         ensures answer { Gives (λ v. v.items) result
-            (function_stack module_info.now (found_function function.entry) offset) }
+            (function_stack module_info.now (function_match function.entry) offset) }
         ensures is_cache { IsCodeCache records self.new }
     {
         match function {
-            FoundFunction::Global(_, _, _) => Ok(Vec::new(self.alloc)),
-            FoundFunction::Procedure(module_index, procedure) => {
+            FunctionMatch::Global { .. } => Ok(Vec::new(self.alloc)),
+            FunctionMatch::Procedure {
+                module_index,
+                procedure,
+            } => {
                 self.ranges
                     .stack(&self.infos, module_index, module_info, &procedure, offset)
             }

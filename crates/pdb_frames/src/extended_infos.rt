@@ -10,7 +10,7 @@ ghost use Rattle.pdb_frames.specs.ExtendedInfo.{extended_info};
 ghost use Rattle.pdb_frames.specs.CodeCaches.{ModuleRecords, IsKnownOf, procedure_ranges};
 
 use crate::extended_info::{ExtendedModuleInfo, compute_extended_module_info};
-use crate::inline_ranges::compute_procedure_inline_ranges;
+use crate::symbol_inline_ranges::compute_procedure_inline_ranges;
 use pdb_errors::Result;
 use pdb_functions::ProcedureSymbolFunction;
 use pdb_inline::InlineRange;
@@ -24,7 +24,7 @@ impl Once<usize> for ExtendedModuleInfo<'_> {
 
     ghost fits = { IsKnownOf };
 
-    ghost apart = { nat_cmp-IsAntisymmetric };
+    ghost antisymmetric = { nat_cmp-IsAntisymmetric };
 }
 
 // What is known of modules' code, beside their procedures, by module index. It is read once.

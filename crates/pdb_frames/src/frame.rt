@@ -39,7 +39,7 @@ impl<'a> Model for Frame<'a> {
 pub struct FunctionFrames<'a> {
     /// Where the function starts, relative to where the program is loaded.
     pub start_rva: u32,
-    /// Where it ends: the address of the first byte behind it, if it is known and fits 32 bits.
+    /// Where it ends: the address of the first byte after it, if it is known and fits 32 bits.
     pub end_rva: Option<u32>,
     /// The frames from inside to outside: the innermost inlined body first, and the function itself last.
     pub frames: Vec<Frame<'a>>,

@@ -5,11 +5,11 @@ ghost use Rattle.pdb_errors.specs.Outcomes.{Gives};
 ghost use Rattle.pdb_tables.specs.OnceMap.{HoldsOfEach};
 ghost use Rattle.pdb_frames.specs.Lines.{function_row};
 ghost use Rattle.pdb_frames.specs.CodeCaches.{ModuleRecords, HasProgram, function_cmp, AreRowsOf};
-ghost use Rattle.pdb_frames.specs.CodeKeys.{function_cmp-apart};
+ghost use Rattle.pdb_frames.specs.CodeKeys.{function_cmp-IsAntisymmetric};
 
 use crate::code_keys::{FunctionKey, function_key};
 use crate::function_rows::FunctionRows;
-use crate::line_entries::ProgramEntries;
+use crate::line_tables::ProgramEntries;
 use pdb_errors::Result;
 use pdb_records::{LineInfo, LineProgram, PdbInternalSectionOffset};
 use pdb_tables::{Once, OnceMap};
@@ -21,7 +21,7 @@ impl Once<FunctionKey> for FunctionRows {
 
     ghost fits = { AreRowsOf };
 
-    ghost apart = { function_cmp-apart };
+    ghost antisymmetric = { function_cmp-IsAntisymmetric };
 }
 
 // The line rows of functions, by module index and where they start. The rows of a function are

@@ -112,7 +112,7 @@ impl FunctionRows {
     #[tactic(auto, using(crate::proofs::RowLemmas::row_is_last))]
     fn search(&self, offset: u32, probes: &mut Probes) -> Option<LineInfo>
         ensures answer { result ≡ row_over self.now.items offset }
-        ensures few { probes.new ≤ probes.old + digits (length self.now.items) }
+        ensures bound { probes.new ≤ probes.old + digits (length self.now.items) }
     {
         let row = neighbours_of(&self.rows, offset, probes).up_to?;
         Some(row.0)

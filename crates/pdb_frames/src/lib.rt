@@ -7,6 +7,7 @@
 
 mod code_cache;
 mod code_keys;
+mod code_locations;
 mod code_parts;
 mod copies;
 mod extended_info;
@@ -15,17 +16,16 @@ mod file_names;
 mod frame;
 mod function_lines;
 mod function_rows;
-mod inline_ranges;
 mod lent_names;
-mod line_entries;
-mod origins;
+mod line_tables;
 mod procedure_ranges;
+mod symbol_inline_ranges;
 
 pub use code_cache::CodeCache;
+pub use code_locations::CodeLocation;
 pub use code_parts::{CodePart, FailedCodeParts};
 pub use copies::copy_of_name;
 pub use extended_info::{ExtendedModuleInfo, compute_extended_module_info};
 pub use file_names::FileNames;
 pub use frame::{Frame, FunctionFrames};
-pub use inline_ranges::compute_procedure_inline_ranges;
-pub use origins::Origin;
+pub use symbol_inline_ranges::compute_procedure_inline_ranges;

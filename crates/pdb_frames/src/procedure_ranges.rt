@@ -5,7 +5,7 @@ ghost use Rattle.std.specs.Ordering.{nat_cmp};
 ghost use Rattle.pdb_errors.specs.Outcomes.{Gives};
 ghost use Rattle.pdb_tables.specs.OnceMap.{HoldsOfEach};
 ghost use Rattle.pdb_frames.specs.CodeCaches.{ModuleRecords, IsKnownOf, procedure_cmp, procedure_stack, AreRangesOf};
-ghost use Rattle.pdb_frames.specs.CodeKeys.{procedure_cmp-apart};
+ghost use Rattle.pdb_frames.specs.CodeKeys.{procedure_cmp-IsAntisymmetric};
 
 use crate::code_keys::{ProcedureKey, procedure_key};
 use crate::extended_infos::ExtendedInfos;
@@ -22,7 +22,7 @@ impl Once<ProcedureKey> for ProcedureStacks {
 
     ghost fits = { AreRangesOf };
 
-    ghost apart = { procedure_cmp-apart };
+    ghost antisymmetric = { procedure_cmp-IsAntisymmetric };
 }
 
 // The ranges of procedures' code that came from inlined bodies, by module index and their

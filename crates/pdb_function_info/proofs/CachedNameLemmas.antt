@@ -4,18 +4,18 @@ use Rattle.std.specs.Prelude.{◌++◌, None, Result, Ok, Err, OnOk, OnErr, opti
 use Rattle.std.proofs.lemmas.List.Elements.{All-nil, All-same, All-push, All-weaker}
 use Rattle.pdb_records.specs.Names.{lossy}
 use Rattle.pdb_types.specs.FailedParts.{Parts, with_met}
-use Rattle.pdb_errors.specs.Provided.{ProviderInfos}
+use Rattle.pdb_records.specs.Provided.{ProviderInfos}
 use Rattle.pdb_types.specs.declared.read_error.Part.{Part}
-use Rattle.pdb_functions.specs.FoundFunctions.{procedures_of_module}
+use Rattle.pdb_functions.specs.FunctionMatches.{procedures_of_module}
 use Rattle.pdb_functions.specs.SymbolNames.{name_by_symbol}
-use Rattle.pdb_documents.specs.BrokenParts.{AddsBroken, with_parts, Settled}
-use Rattle.pdb_documents.specs.Documents.{Document, run}
-use Rattle.pdb_signatures.specs.Formatters.{Formatter}
-use Rattle.pdb_documents.specs.Ids.{id_of_index}
-use Rattle.pdb_documents.specs.Printed.{document_of, id_run}
-use Rattle.pdb_documents.specs.Signatures.{signature}
-use Rattle.pdb_documents.specs.PrintInputs.{PrintInputs, formatter_inputs}
-use Rattle.pdb_documents.proofs.MetLemmas.{settled-printed, settled-more}
+use Rattle.pdb_type_texts.specs.BrokenParts.{AddsBroken, with_parts, Settled}
+use Rattle.pdb_type_texts.specs.Documents.{Document, run}
+use Rattle.pdb_type_printer.specs.Formatters.{Formatter}
+use Rattle.pdb_type_texts.specs.Ids.{id_of_index}
+use Rattle.pdb_type_texts.specs.Printed.{document_of, id_run}
+use Rattle.pdb_type_texts.specs.Signatures.{signature}
+use Rattle.pdb_type_texts.specs.PrintInputs.{PrintInputs, formatter_inputs}
+use Rattle.pdb_type_texts.proofs.MetLemmas.{settled-printed, settled-more}
 use Rattle.pdb_function_info.specs.CachedNames.{IsPrinted, signature_printing, IsCachedSignature, IsSignatureCache}
 use Rattle.pdb_function_info.specs.CachedNames.{IsCachedId, IsIdCache, HasText}
 use Rattle.pdb_function_info.specs.NameTexts.{text_of_run}

@@ -3,13 +3,13 @@ use Rattle.std.proofs.Common.{◌≡◌, ◌∙◌, ℕ, List, [], sym, ap, refl
 use Rattle.std.specs.Prelude.{Option, Some, None, option_map}
 use Rattle.pdb_errors.specs.Errors.{ErrorView}
 use Rattle.pdb_types.specs.FailedParts.{Parts}
-use Rattle.pdb_documents.specs.Documents.{Failure, failure_error, Document, run}
-use Rattle.pdb_documents.specs.Printed.{AlikeFault}
-use Rattle.pdb_documents.proofs.AlikeLemmas.{alike-runs}
+use Rattle.pdb_type_texts.specs.Documents.{PrintError, failure_error, Document, run}
+use Rattle.pdb_type_texts.specs.Printed.{AlikeFault}
+use Rattle.pdb_type_texts.proofs.AlikeLemmas.{alike-runs}
 use Rattle.pdb_function_info.specs.NameTexts.{faultless, text_of_run}
 
 -- faults that are alike leave the same text
-alike-faultless : (f g : Option Failure) (text : List ℕ) → AlikeFault f g → faultless f text ≡ faultless g text
+alike-faultless : (f g : Option PrintError) (text : List ℕ) → AlikeFault f g → faultless f text ≡ faultless g text
 alike-faultless None None text alike = refl
 alike-faultless (Some e) (Some e') text alike = refl
 alike-faultless None (Some e) text alike = absurd alike
@@ -29,7 +29,7 @@ pub printed-text : (d : Document) (failed after : Parts) (text : List ℕ)
 printed-text d failed after text is = ap text_of_run (sym is) ∙ same-text d failed []
 
 -- a fault leaves no text
-no-text : (fault : Option Failure) (text : List ℕ) (e : ErrorView)
+no-text : (fault : Option PrintError) (text : List ℕ) (e : ErrorView)
     → option_map failure_error fault ≡ Some e → None ≡ faultless fault text
 no-text None text e is = cc
 no-text (Some failure) text e is = refl

@@ -4,13 +4,13 @@ use Rattle.std.specs.List.{All, IsAmong}
 use Rattle.pdb_records.specs.Names.{lossy}
 use Rattle.pdb_types.specs.FailedParts.{Parts}
 use Rattle.pdb_types.specs.TypeInputs.{TypeInputs}
-use Rattle.pdb_errors.specs.Provided.{ProviderInfos}
-use Rattle.pdb_functions.specs.FoundFunctions.{procedures_of_module}
+use Rattle.pdb_records.specs.Provided.{ProviderInfos}
+use Rattle.pdb_functions.specs.FunctionMatches.{procedures_of_module}
 use Rattle.pdb_functions.specs.SymbolNames.{name_by_symbol}
-use Rattle.pdb_documents.specs.BrokenParts.{Settled}
-use Rattle.pdb_documents.specs.Documents.{Run}
-use Rattle.pdb_signatures.specs.Formatters.{Formatter}
-use Rattle.pdb_documents.specs.Printed.{signature_run, id_run}
+use Rattle.pdb_type_texts.specs.BrokenParts.{Settled}
+use Rattle.pdb_type_texts.specs.Documents.{Run}
+use Rattle.pdb_type_printer.specs.Formatters.{Formatter}
+use Rattle.pdb_type_texts.specs.Printed.{signature_run, id_run}
 use Rattle.pdb_function_info.specs.NameTexts.{text_of_run}
 use Rattle.pdb_function_info.specs.declared.name_keys.IdKey.{IdKey}
 use Rattle.pdb_function_info.specs.declared.name_keys.SignatureKey.{SignatureKey}

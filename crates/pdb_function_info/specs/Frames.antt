@@ -13,18 +13,18 @@ use Rattle.pdb_records.specs.declared.strings.StringRef.{StringRef}
 use Rattle.pdb_types.specs.FailedParts.{Parts}
 use Rattle.pdb_errors.specs.Outcomes.{and_then}
 use Rattle.pdb_types.specs.TypeInputs.{TypeInputs}
-use Rattle.pdb_errors.specs.Provided.{ProviderInfos}
+use Rattle.pdb_records.specs.Provided.{ProviderInfos}
 use Rattle.pdb_errors.specs.declared.error.Error.{Error}
 use Rattle.pdb_errors.specs.declared.error.Error.TheVariants.{OutOfMemory}
 use Rattle.pdb_functions.specs.GlobalFunctions.{GlobalFunction}
-use Rattle.pdb_functions.specs.FoundFunctions.{FoundFunction, found_procedure, found_global, next_global}
+use Rattle.pdb_functions.specs.FunctionMatches.{FunctionMatch, found_procedure, found_global, next_global}
 use Rattle.pdb_inline.specs.declared.inline_ranges.InlineRange.{InlineRange}
 use Rattle.pdb_frames.specs.Frame.{FrameInfo, FramesInfo}
 use Rattle.pdb_function_info.specs.Function.{sum_in_32_bits}
 use Rattle.pdb_frames.specs.Lines.{file_name}
 use Rattle.pdb_function_info.specs.NameTexts.{function_name, failed_by_function_name, id_name, failed_by_id}
-use Rattle.pdb_frames.specs.Origins.{Origin, origin}
-use Rattle.pdb_functions.specs.FoundFunctions.{function_module, function_start}
+use Rattle.pdb_frames.specs.CodeLocations.{CodeLocation, code_location}
+use Rattle.pdb_functions.specs.FunctionMatches.{function_module, function_start}
 
 -- the string table of a program, where it has one
 abbrev pub Strings : Type 0
@@ -53,23 +53,23 @@ inlined_frames strings program name_of ranges =
 
 -- the frames of code that comes from here, from inside to outside: those of the inlined bodies, and last that of the
 -- function itself
-abbrev pub origin_frames : Strings → (IdIndex → Option (List ℕ)) → Option (List ℕ) → Origin → List FrameInfo
-origin_frames strings name_of name o =
+abbrev pub code_location_frames : Strings → (IdIndex → Option (List ℕ)) → Option (List ℕ) → CodeLocation → List FrameInfo
+code_location_frames strings name_of name o =
     reverse (inlined_frames strings o.line_program name_of o.stack)
     ++ own_frame strings name o.line_program o.row ∷ []
 
 -- the frames of a function of this name at an offset: where there are no records of its module, the one frame of the
 -- function, without a file and a line; else those of where the code comes from, refused as that is
 abbrev pub function_frames : Strings → (IdIndex → Option (List ℕ)) → Option (List ℕ) → Option ModuleInfo
-    → FoundFunction → ℕ → Result (List FrameInfo) Error
+    → FunctionMatch → ℕ → Result (List FrameInfo) Error
 function_frames strings name_of name None found x =
     Ok (record { function = name; file = None; line = None } ∷ [])
 function_frames strings name_of name (Some info) found x =
-    and_then (origin info found x) (λ o. Ok (origin_frames strings name_of name o))
+    and_then (code_location info found x) (λ o. Ok (code_location_frames strings name_of name o))
 
 -- the size of a function in bytes, where it is known: a global function reaches to the next one of its section, if
 -- there is one
-abbrev pub function_size : List GlobalFunction → FoundFunction → Option ℕ
+abbrev pub function_size : List GlobalFunction → FunctionMatch → Option ℕ
 function_size globals (found_procedure m p) = Some p.len
 function_size globals (found_global m f) =
     option_map (λ next. next.start.offset - f.start.offset) (next_global f.start globals)
@@ -77,7 +77,7 @@ function_size globals (found_global m f) =
 -- the frames info of a function that lies over a section offset, at an offset there: where it starts and ends, as
 -- far as that is known and fits 32 bits, and the frames. There is none of a function without an address
 abbrev pub info_of_frames : {P : Type 0} → (P → ProviderInfos) → TypeInputs P → Strings → List AddressRange
-    → List GlobalFunction → Option ModuleInfo → FoundFunction → ℕ → Result (Option FramesInfo) Error
+    → List GlobalFunction → Option ModuleInfo → FunctionMatch → ℕ → Result (Option FramesInfo) Error
 info_of_frames info type_inputs strings sections globals records found x =
     let name = function_name info type_inputs globals found in
     let name_of = id_name info type_inputs (function_module found) in
@@ -95,15 +95,15 @@ failed_by_ids failed_by ranges failed = fold (λ before range. failed_by range.i
 
 -- the inlined bodies over an offset of a function: none where there are no records of its module, and where it is
 -- refused where the code comes from
-abbrev pub bodies_over : Option ModuleInfo → FoundFunction → ℕ → List InlineRange
+abbrev pub bodies_over : Option ModuleInfo → FunctionMatch → ℕ → List InlineRange
 bodies_over records found x =
-    option_map_or (λ o. o.stack) (option_and_then (λ info. result_ok (origin info found x)) records) []
+    option_map_or (λ o. o.stack) (option_and_then (λ info. result_ok (code_location info found x)) records) []
 
 -- the parts that failed once a function's frames are answered: first those by its own name, then those by the names of
 -- the inlined bodies
 abbrev pub failed_by_frames : {P : Type 0} → (P → ProviderInfos) → TypeInputs P → List AddressRange
     → List GlobalFunction
-    → Option ModuleInfo → FoundFunction → ℕ → Parts → Parts
+    → Option ModuleInfo → FunctionMatch → ℕ → Parts → Parts
 failed_by_frames info type_inputs sections globals records found x failed =
     let failed_by = failed_by_id info type_inputs (function_module found) in
     let named = failed_by_function_name info type_inputs globals found failed in

@@ -7,11 +7,11 @@ use Rattle.pdb_records.specs.Addresses.{rva}
 use Rattle.pdb_records.specs.declared.addresses.AddressRange.{AddressRange}
 use Rattle.pdb_types.specs.FailedParts.{Parts}
 use Rattle.pdb_types.specs.TypeInputs.{TypeInputs}
-use Rattle.pdb_errors.specs.Provided.{ProviderInfos}
+use Rattle.pdb_records.specs.Provided.{ProviderInfos}
 use Rattle.pdb_function_info.specs.declared.function.Function.{Function}
 use Rattle.pdb_functions.specs.GlobalFunctions.{GlobalFunction}
 use Rattle.pdb_functions.specs.Procedures.{ModuleProcedure}
-use Rattle.pdb_functions.specs.FoundFunctions.{FoundFunction, found_procedure, found_global, next_global}
+use Rattle.pdb_functions.specs.FunctionMatches.{FunctionMatch, found_procedure, found_global, next_global}
 use Rattle.pdb_function_info.specs.NameTexts.{procedure_name, failed_by_name}
 
 -- a function's addresses and its name, as far as they are known
@@ -52,7 +52,7 @@ info_of_procedure sections p name =
 
 -- the function info of a function that lies over a section offset
 abbrev pub info_of : {P : Type 0} → (P → ProviderInfos) → TypeInputs P → List AddressRange → List GlobalFunction
-    → FoundFunction
+    → FunctionMatch
     → Option FunctionInfo
 info_of info type_inputs sections globals (found_global m f) = info_of_global sections globals f
 info_of info type_inputs sections globals (found_procedure m p) =
@@ -61,7 +61,7 @@ info_of info type_inputs sections globals (found_procedure m p) =
 -- the parts that failed once that is answered: those by its name, where a procedure has an address
 abbrev pub failed_after_info : {P : Type 0} → (P → ProviderInfos) → TypeInputs P → List AddressRange
     → List GlobalFunction
-    → FoundFunction → Parts → Parts
+    → FunctionMatch → Parts → Parts
 failed_after_info info type_inputs sections globals (found_global m f) failed = failed
 failed_after_info info type_inputs sections globals (found_procedure m p) failed =
     option_map_or (λ start. failed_by_name info type_inputs globals m p failed) (rva sections p.offset) failed

@@ -8,15 +8,15 @@ use Rattle.pdb_records.specs.declared.addresses.PdbInternalSectionOffset.{PdbInt
 use Rattle.pdb_records.specs.declared.ids.IdIndex.{IdIndex}
 use Rattle.pdb_types.specs.FailedParts.{Parts}
 use Rattle.pdb_types.specs.TypeInputs.{TypeInputs}
-use Rattle.pdb_errors.specs.Provided.{ProviderInfos}
+use Rattle.pdb_records.specs.Provided.{ProviderInfos}
 use Rattle.pdb_functions.specs.GlobalFunctions.{GlobalFunction}
 use Rattle.pdb_functions.specs.Procedures.{ModuleProcedure}
-use Rattle.pdb_functions.specs.FoundFunctions.{FoundFunction, found_procedure, found_global, global_at}
+use Rattle.pdb_functions.specs.FunctionMatches.{FunctionMatch, found_procedure, found_global, global_at}
 use Rattle.pdb_types.specs.declared.read_error.Part.{Part}
-use Rattle.pdb_documents.specs.BrokenParts.{AddsBroken, IsBroken, with_parts}
-use Rattle.pdb_documents.specs.Documents.{Failure, Run}
-use Rattle.pdb_documents.specs.Printed.{signature_run, id_run}
-use Rattle.pdb_documents.specs.PrintInputs.{formatter_inputs}
+use Rattle.pdb_type_texts.specs.BrokenParts.{AddsBroken, IsBroken, with_parts}
+use Rattle.pdb_type_texts.specs.Documents.{PrintError, Run}
+use Rattle.pdb_type_texts.specs.Printed.{signature_run, id_run}
+use Rattle.pdb_type_texts.specs.PrintInputs.{formatter_inputs}
 
 -- a name that a compiler decorated begins with a question mark
 abbrev pub is_decorated : List ℕ → Bool
@@ -37,7 +37,7 @@ decorated_instead globals p =
     if p.type_index.0 == 0 && not (is_decorated p.name) then decorated_at globals p.offset else None
 
 -- a text, unless there is a fault
-abbrev pub faultless : Option Failure → List ℕ → Option (List ℕ)
+abbrev pub faultless : Option PrintError → List ℕ → Option (List ℕ)
 faultless None text = Some text
 faultless (Some failure) text = None
 
@@ -69,19 +69,19 @@ failed_by_name info type_inputs globals module_index p failed =
     option_map_or (λ name. failed) (decorated_instead globals p) run.failed
 
 -- the name of a function that was found, if one is known: that of a global function as text, or that of a procedure
-abbrev pub function_name : {P : Type 0} → (P → ProviderInfos) → TypeInputs P → List GlobalFunction → FoundFunction
+abbrev pub function_name : {P : Type 0} → (P → ProviderInfos) → TypeInputs P → List GlobalFunction → FunctionMatch
     → Option (List ℕ)
 function_name info type_inputs globals (found_global m f) = option_map lossy f.name
 function_name info type_inputs globals (found_procedure m p) = procedure_name info type_inputs globals m p
 
 -- the name of the symbol of a function that was found, as text: a procedure's, or a global function's, where it has one
-abbrev pub symbol_name : FoundFunction → Option (List ℕ)
+abbrev pub symbol_name : FunctionMatch → Option (List ℕ)
 symbol_name (found_global m f) = option_map lossy f.name
 symbol_name (found_procedure m p) = Some (lossy p.name)
 
 -- the parts that failed once a function is named: a global function breaks none
 abbrev pub failed_by_function_name : {P : Type 0} → (P → ProviderInfos) → TypeInputs P → List GlobalFunction
-    → FoundFunction
+    → FunctionMatch
     → Parts → Parts
 failed_by_function_name info type_inputs globals (found_global m f) failed = failed
 failed_by_function_name info type_inputs globals (found_procedure m p) failed =

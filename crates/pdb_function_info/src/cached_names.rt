@@ -3,12 +3,12 @@
 ghost use Rattle.std.specs.Prelude.{◌≡◌, Some, List, ℕ, option_map, string_bytes, OnOk, MatchResult};
 ghost use Rattle.pdb_records.specs.Names.{lossy};
 ghost use Rattle.pdb_errors.specs.declared.error.Error.TheVariants.{OutOfMemory};
-ghost use Rattle.pdb_functions.specs.FoundFunctions.{procedures_of_module};
+ghost use Rattle.pdb_functions.specs.FunctionMatches.{procedures_of_module};
 ghost use Rattle.pdb_functions.specs.SymbolNames.{name_by_symbol};
-ghost use Rattle.pdb_documents.specs.BrokenParts.{AddsBroken};
-ghost use Rattle.pdb_signatures.specs.Formatters.{Formatter};
-ghost use Rattle.pdb_documents.specs.Printed.{signature_run, id_run};
-ghost use Rattle.pdb_documents.specs.PrintInputs.{formatter_inputs};
+ghost use Rattle.pdb_type_texts.specs.BrokenParts.{AddsBroken};
+ghost use Rattle.pdb_type_printer.specs.Formatters.{Formatter};
+ghost use Rattle.pdb_type_texts.specs.Printed.{signature_run, id_run};
+ghost use Rattle.pdb_type_texts.specs.PrintInputs.{formatter_inputs};
 ghost use Rattle.pdb_function_info.specs.CachedNames.{IsPrinted, signature_printing, IsSignatureCache, IsIdCache};
 ghost use Rattle.pdb_function_info.specs.NameTexts.{signature_text, id_name, failed_by_id};
 
@@ -16,11 +16,11 @@ use crate::cached_signatures::CachedSignatures;
 use crate::cached_texts::CachedTexts;
 use crate::name_keys::{IdKey, SignatureKey, id_key, signature_key};
 use crate::printed_names::{name_of_id, signature_of};
-use pdb_errors::{ModuleProvider, Result};
+use pdb_errors::Result;
 use pdb_frames::copy_of_name;
 use pdb_functions::ProcedureSymbolFunction;
-use pdb_records::IdIndex;
-use pdb_signatures::TypeFormatter;
+use pdb_records::{IdIndex, ModuleProvider};
+use pdb_type_printer::TypeFormatter;
 use std::alloc::{AllocError, Global};
 
 // Caches the signature of a procedure.

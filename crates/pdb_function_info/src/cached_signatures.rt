@@ -4,7 +4,7 @@ ghost use Rattle.std.specs.Prelude.{◌≡◌, []};
 
 use crate::cached_texts::CachedTexts;
 use crate::name_keys::SignatureKey;
-use pdb_errors::ModuleProvider;
+use pdb_records::ModuleProvider;
 use std::alloc::Global;
 
 // Signatures of procedures that were printed once. The provider has the records of the procedures' modules, in which

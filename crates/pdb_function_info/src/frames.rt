@@ -6,25 +6,25 @@ ghost use Rattle.std.specs.Option.{option_copied};
 ghost use Rattle.pdb_errors.specs.Outcomes.{Gives};
 ghost use Rattle.pdb_errors.specs.declared.error.Error.TheVariants.{OutOfMemory};
 ghost use Rattle.pdb_records.specs.Addresses.{rva};
-ghost use Rattle.pdb_functions.specs.FoundFunctions.{found_function, function_module, function_start};
+ghost use Rattle.pdb_functions.specs.FunctionMatches.{function_match, function_module, function_start};
 ghost use Rattle.pdb_functions.specs.SymbolNames.{GoesBySymbol};
-ghost use Rattle.pdb_documents.specs.BrokenParts.{AddsBroken};
-ghost use Rattle.pdb_documents.specs.PrintInputs.{formatter_inputs};
-ghost use Rattle.pdb_function_info.specs.Frames.{own_frame, inlined_frame, inlined_frames, origin_frames};
+ghost use Rattle.pdb_type_texts.specs.BrokenParts.{AddsBroken};
+ghost use Rattle.pdb_type_texts.specs.PrintInputs.{formatter_inputs};
+ghost use Rattle.pdb_function_info.specs.Frames.{own_frame, inlined_frame, inlined_frames, code_location_frames};
 ghost use Rattle.pdb_function_info.specs.Frames.{function_frames, function_size, info_of_frames};
 ghost use Rattle.pdb_function_info.specs.Frames.{failed_by_ids, bodies_over, failed_by_frames, ButForMemory};
 ghost use Rattle.pdb_function_info.specs.Function.{sum_in_32_bits};
 ghost use Rattle.pdb_function_info.specs.NameTexts.{id_name, failed_by_id};
 ghost use Rattle.pdb_frames.specs.CodeCache.{IsCodeCache};
 ghost use Rattle.pdb_frames.specs.CodeCaches.{ModuleRecords};
-ghost use Rattle.pdb_frames.specs.Origins.{origin_view};
+ghost use Rattle.pdb_frames.specs.CodeLocations.{code_location_view};
 
 use crate::function_names::FunctionNames;
-use pdb_errors::{ModuleProvider, Result};
-use pdb_frames::{CodeCache, FileNames, Frame, FunctionFrames, Origin};
-use pdb_functions::{FoundFunction, GlobalFunctionTable};
+use pdb_errors::Result;
+use pdb_frames::{CodeCache, CodeLocation, FileNames, Frame, FunctionFrames};
+use pdb_functions::{FunctionMatch, GlobalFunctionTable};
 use pdb_inline::InlineRange;
-use pdb_records::{AddressMap, LineInfo, LineProgram, ModuleInfo};
+use pdb_records::{AddressMap, LineInfo, LineProgram, ModuleInfo, ModuleProvider};
 use pdb_tables::Probes;
 use std::alloc::{AllocError, Global};
 
@@ -104,34 +104,34 @@ fn inlined_frames<'a, P: ModuleProvider>(
 
 // The frames of code that comes from here, from inside to outside: those of the inlined bodies, and last
 // that of the function itself.
-fn frames_of_origin<'a, P: ModuleProvider>(
+fn frames_of_location<'a, P: ModuleProvider>(
     alloc: Global,
     files: &FileNames<'a>,
     names: &mut FunctionNames<'a, P>,
     module_index: usize,
     name: Option<String>,
-    origin: &Origin<'_>,
+    code_location: &CodeLocation<'_>,
 ) -> Result<Vec<Frame<'a>>>
     ensures answer { MatchResult result
-        (λ v. v.items ≡ origin_frames files.now
-        (id_name P.info names.old.type_inputs module_index) (option_map string_bytes name) (origin_view origin.now))
+        (λ v. v.items ≡ code_location_frames files.now
+        (id_name P.info names.old.type_inputs module_index) (option_map string_bytes name) (code_location_view code_location.now))
         (λ e. e ≡ OutOfMemory) }
     ensures type_inputs { names.new.type_inputs ≡ names.old.type_inputs }
     ensures provider { names.new.provider ≡ names.old.provider }
     ensures failed { OnOk result (names.new.failed
         ≡ failed_by_ids (failed_by_id P.info names.old.type_inputs module_index)
-        (origin_view origin.now).stack names.old.failed) }
+        (code_location_view code_location.now).stack names.old.failed) }
     ensures broken { AddsBroken (formatter_inputs P.info names.old.type_inputs module_index)
         names.old.failed names.new.failed }
 {
-    let own = own_frame(files, name, origin.line_program, origin.row)?;
+    let own = own_frame(files, name, code_location.line_program, code_location.row)?;
     let mut frames = inlined_frames(
         alloc,
         files,
         names,
         module_index,
-        origin.line_program,
-        &origin.stack,
+        code_location.line_program,
+        &code_location.stack,
     )?;
     frames.reverse();
     frames.push(own)?;
@@ -161,25 +161,25 @@ fn frames_of_function<'a, P: ModuleProvider>(
     code: &mut CodeCache<'a>,
     name: Option<String>,
     module_info: Option<&'a ModuleInfo>,
-    function: FoundFunction<'_>,
+    function: FunctionMatch<'_>,
     offset: u32,
 ) -> Result<Vec<Frame<'a>>>
     ghost records: { ModuleRecords }
     requires is_cache { IsCodeCache records code.old }
     requires module_info { IfSome module_info
-        (λ info. records (function_module (found_function function)) ≡ Some info.now) }
-    ensures answer { let found = found_function function.entry in
+        (λ info. records (function_module (function_match function)) ≡ Some info.now) }
+    ensures answer { let found = function_match function.entry in
         let name_of = id_name P.info names.old.type_inputs (function_module found) in
         Gives (λ v. v.items) result (function_frames files.now name_of
         (option_map string_bytes name) (option_copied module_info.entry) found offset) }
     ensures type_inputs { names.new.type_inputs ≡ names.old.type_inputs }
     ensures provider { names.new.provider ≡ names.old.provider }
-    ensures failed { let found = found_function function.entry in
+    ensures failed { let found = function_match function.entry in
         let failed_by = failed_by_id P.info names.old.type_inputs (function_module found) in
         let bodies = bodies_over (option_copied module_info.entry) found offset in
         ButForMemory result (names.new.failed ≡ failed_by_ids failed_by bodies names.old.failed) }
     ensures broken { AddsBroken
-        (formatter_inputs P.info names.old.type_inputs (function_module (found_function function.entry)))
+        (formatter_inputs P.info names.old.type_inputs (function_module (function_match function.entry)))
         names.old.failed names.new.failed }
     ensures is_cache { IsCodeCache records code.new }
 {
@@ -187,19 +187,23 @@ fn frames_of_function<'a, P: ModuleProvider>(
         let frames = name_alone(alloc, name)?;
         return Ok(frames);
     };
-    let origin = code.origin(info, function, offset)?;
+    let code_location = code.code_location(info, function, offset)?;
     let module_index = function.module_index();
-    frames_of_origin(alloc, files, names, module_index, name, &origin)
+    frames_of_location(alloc, files, names, module_index, name, &code_location)
 }
 
 // The size of a function in bytes, if it is known. A global function reaches to the next one of its
 // section.
-fn function_size(functions: &GlobalFunctionTable<'_>, function: FoundFunction<'_>) -> Option<u32>
-    ensures { result ≡ function_size functions.now (found_function function.entry) }
+fn function_size(functions: &GlobalFunctionTable<'_>, function: FunctionMatch<'_>) -> Option<u32>
+    ensures { result ≡ function_size functions.now (function_match function.entry) }
 {
     match function {
-        FoundFunction::Procedure(_, procedure) => Some(procedure.len),
-        FoundFunction::Global(_, function, next_place) => {
+        FunctionMatch::Procedure { procedure, .. } => Some(procedure.len),
+        FunctionMatch::Global {
+            function,
+            next_place,
+            ..
+        } => {
             let start = function.start_offset;
             let next = functions.next_function(start, next_place, &mut Probes::new())?;
             Some(next.start_offset.offset.saturating_sub(start.offset))
@@ -218,9 +222,9 @@ struct FunctionAddresses {
 fn addresses_of(
     address_map: &AddressMap,
     functions: &GlobalFunctionTable<'_>,
-    function: FoundFunction<'_>,
+    function: FunctionMatch<'_>,
 ) -> Option<FunctionAddresses>
-    ensures { let found = found_function function.entry in
+    ensures { let found = function_match function.entry in
         let size = function_size functions.now found in
         result ≡ option_map
         (λ start. record { start_rva = start.0; end_rva = option_and_then (sum_in_32_bits start.0) size })
@@ -247,24 +251,24 @@ pub fn frames_info<'a, P: ModuleProvider>(
     names: &mut FunctionNames<'a, P>,
     code: &mut CodeCache<'a>,
     module_info: Option<&'a ModuleInfo>,
-    function: FoundFunction<'a>,
+    function: FunctionMatch<'a>,
     offset: u32,
 ) -> Result<Option<FunctionFrames<'a>>>
     ghost records: { ModuleRecords }
-    requires named { GoesBySymbol (P.info names.old.provider) names.old.type_inputs.modules (found_function function) }
+    requires named { GoesBySymbol (P.info names.old.provider) names.old.type_inputs.modules (function_match function) }
     requires is_cache { IsCodeCache records code.old }
     requires module_info { IfSome module_info
-        (λ info. records (function_module (found_function function)) ≡ Some info.now) }
+        (λ info. records (function_module (function_match function)) ≡ Some info.now) }
     ensures answer { Gives (λ f. f) result (info_of_frames P.info names.old.type_inputs files.now
         address_map.now functions.now (option_copied module_info.entry)
-        (found_function function.entry) offset) }
+        (function_match function.entry) offset) }
     ensures type_inputs { names.new.type_inputs ≡ names.old.type_inputs }
     ensures provider { names.new.provider ≡ names.old.provider }
     ensures failed { ButForMemory result (names.new.failed ≡ failed_by_frames P.info names.old.type_inputs
         address_map.now functions.now (option_copied module_info.entry)
-        (found_function function.entry) offset names.old.failed) }
+        (function_match function.entry) offset names.old.failed) }
     ensures broken { AddsBroken
-        (formatter_inputs P.info names.old.type_inputs (function_module (found_function function.entry)))
+        (formatter_inputs P.info names.old.type_inputs (function_module (function_match function.entry)))
         names.old.failed names.new.failed }
     ensures is_cache { IsCodeCache records code.new }
 {

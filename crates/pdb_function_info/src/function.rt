@@ -7,7 +7,7 @@ ghost use Rattle.pdb_records.specs.Names.{lossy};
 ghost use Rattle.pdb_errors.specs.declared.error.Error.TheVariants.{OutOfMemory};
 ghost use Rattle.pdb_functions.specs.GlobalFunctions.{global_function};
 ghost use Rattle.pdb_functions.specs.Procedures.{module_procedure};
-ghost use Rattle.pdb_functions.specs.FoundFunctions.{found_function, procedures_of_module};
+ghost use Rattle.pdb_functions.specs.FunctionMatches.{function_match, procedures_of_module};
 ghost use Rattle.pdb_functions.specs.SymbolNames.{name_by_symbol, GoesBySymbol};
 ghost use Rattle.pdb_function_info.specs.NameTexts.{procedure_name, failed_by_name, GainsBroken};
 ghost use Rattle.pdb_function_info.specs.Function.{function_view, global_end, info_of_global};
@@ -15,10 +15,10 @@ ghost use Rattle.pdb_function_info.specs.Function.{info_of_procedure, info_of, f
 
 use crate::function_names::FunctionNames;
 use crate::name_texts::text_of_name;
-use pdb_errors::{ModuleProvider, Result};
+use pdb_errors::Result;
 use pdb_frames::copy_of_name;
-use pdb_functions::{FoundFunction, GlobalFunction, GlobalFunctionTable, ProcedureSymbolFunction};
-use pdb_records::AddressMap;
+use pdb_functions::{FunctionMatch, GlobalFunction, GlobalFunctionTable, ProcedureSymbolFunction};
+use pdb_records::{AddressMap, ModuleProvider};
 use pdb_tables::Probes;
 use std::alloc::{AllocError, Global};
 
@@ -27,7 +27,7 @@ use std::alloc::{AllocError, Global};
 pub struct Function {
     /// Where the function starts, relative to where the program is loaded.
     pub start_rva: u32,
-    /// Where it ends: the address of the first byte behind it, if it is known and fits 32 bits.
+    /// Where it ends: the address of the first byte after it, if it is known and fits 32 bits.
     pub end_rva: Option<u32>,
     /// The name, if one is known. That of a procedure is its signature, as the formatter's flags want it.
     /// That of a public symbol may be decorated: it then begins with a question mark, and a demangler can
@@ -129,29 +129,28 @@ pub fn function_info<'a, P: ModuleProvider>(
     address_map: &AddressMap,
     functions: &GlobalFunctionTable<'_>,
     names: &mut FunctionNames<'a, P>,
-    found: FoundFunction<'a>,
+    found: FunctionMatch<'a>,
 ) -> Result<Option<Function>>
-    requires named { GoesBySymbol (P.info names.old.provider) names.old.type_inputs.modules (found_function found) }
+    requires named { GoesBySymbol (P.info names.old.provider) names.old.type_inputs.modules (function_match found) }
     ensures answer { MatchResult result
         (λ f. option_map function_view f ≡ info_of P.info names.old.type_inputs address_map.now
-        functions.now (found_function found.entry))
+        functions.now (function_match found.entry))
         (λ e. e ≡ OutOfMemory) }
     ensures type_inputs { names.new.type_inputs ≡ names.old.type_inputs }
     ensures provider { names.new.provider ≡ names.old.provider }
     ensures failed { OnOk result (names.new.failed ≡ failed_after_info P.info names.old.type_inputs
-        address_map.now functions.now (found_function found.entry) names.old.failed) }
+        address_map.now functions.now (function_match found.entry) names.old.failed) }
     ensures broken { GainsBroken P.info names.old.type_inputs names.old.failed names.new.failed }
 {
     match found {
-        FoundFunction::Global(_, function, next_place) => {
-            Ok(global_function_info(alloc, address_map, functions, function, next_place)?)
-        }
-        FoundFunction::Procedure(module_index, procedure) => procedure_info(
-            address_map,
-            functions,
-            names,
+        FunctionMatch::Global {
+            function,
+            next_place,
+            ..
+        } => { Ok(global_function_info(alloc, address_map, functions, function, next_place)?) }
+        FunctionMatch::Procedure {
             module_index,
             procedure,
-        ),
+        } => procedure_info(address_map, functions, names, module_index, procedure),
     }
 }

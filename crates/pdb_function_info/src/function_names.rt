@@ -5,13 +5,13 @@ ghost use Rattle.pdb_records.specs.Names.{lossy};
 ghost use Rattle.pdb_types.specs.FailedParts.{with_met};
 ghost use Rattle.pdb_types.specs.TypeSizes.{size_of};
 ghost use Rattle.pdb_errors.specs.declared.error.Error.TheVariants.{OutOfMemory};
-ghost use Rattle.pdb_functions.specs.FoundFunctions.{found_function, procedures_of_module, function_module};
+ghost use Rattle.pdb_functions.specs.FunctionMatches.{function_match, procedures_of_module, function_module};
 ghost use Rattle.pdb_functions.specs.Procedures.{module_procedure};
 ghost use Rattle.pdb_functions.specs.SymbolNames.{name_by_symbol, GoesBySymbol};
-ghost use Rattle.pdb_documents.specs.PrintedTexts.{AnswersText};
-ghost use Rattle.pdb_documents.specs.BrokenParts.{AddsBroken};
-ghost use Rattle.pdb_documents.specs.Printed.{signature_run, id_run};
-ghost use Rattle.pdb_documents.specs.PrintInputs.{formatter_inputs};
+ghost use Rattle.pdb_type_texts.specs.PrintedTexts.{AnswersText};
+ghost use Rattle.pdb_type_texts.specs.BrokenParts.{AddsBroken};
+ghost use Rattle.pdb_type_texts.specs.Printed.{signature_run, id_run};
+ghost use Rattle.pdb_type_texts.specs.PrintInputs.{formatter_inputs};
 ghost use Rattle.pdb_function_info.specs.NameTexts.{signature_text, procedure_name, failed_by_name, function_name};
 ghost use Rattle.pdb_function_info.specs.NameTexts.{failed_by_function_name, id_name, failed_by_id};
 
@@ -20,10 +20,10 @@ use crate::cached_signatures::CachedSignatures;
 use crate::cached_texts::CachedTexts;
 use crate::name_keys::IdKey;
 use crate::name_texts::{decorated_name_instead, text_of, text_of_name};
-use pdb_errors::{ModuleProvider, Result};
-use pdb_functions::{FoundFunction, GlobalFunctionTable, ProcedureSymbolFunction};
-use pdb_records::{IdIndex, Module, TypeIndex};
-use pdb_signatures::TypeFormatter;
+use pdb_errors::Result;
+use pdb_functions::{FunctionMatch, GlobalFunctionTable, ProcedureSymbolFunction};
+use pdb_records::{IdIndex, Module, ModuleProvider, TypeIndex};
+use pdb_type_printer::TypeFormatter;
 use std::alloc::Global;
 use std::marker::Model;
 
@@ -235,30 +235,31 @@ impl<'a, P: ModuleProvider> FunctionNames<'a, P> {
     pub(crate) fn name_of_function(
         &mut self,
         functions: &GlobalFunctionTable<'_>,
-        function: FoundFunction<'_>,
+        function: FunctionMatch<'_>,
     ) -> Result<Option<String>>
         requires named { GoesBySymbol (P.info self.old.provider) self.old.type_inputs.modules
-            (found_function function) }
+            (function_match function) }
         ensures answer { MatchResult result
             (λ name. option_map string_bytes name ≡ function_name P.info self.old.type_inputs
-            functions.now (found_function function.entry))
+            functions.now (function_match function.entry))
             (λ e. e ≡ OutOfMemory) }
         ensures type_inputs { self.new.type_inputs ≡ self.old.type_inputs }
         ensures provider { self.new.provider ≡ self.old.provider }
         ensures failed { OnOk result (self.new.failed ≡ failed_by_function_name P.info self.old.type_inputs
-            functions.now (found_function function.entry) self.old.failed) }
+            functions.now (function_match function.entry) self.old.failed) }
         ensures broken { AddsBroken
-            (formatter_inputs P.info self.old.type_inputs (function_module (found_function function.entry)))
+            (formatter_inputs P.info self.old.type_inputs (function_module (function_match function.entry)))
             self.old.failed self.new.failed }
     {
         match function {
-            FoundFunction::Global(_, function, _) => {
+            FunctionMatch::Global { function, .. } => {
                 let name = text_of_name(self.alloc, function.name)?;
                 Ok(name)
             }
-            FoundFunction::Procedure(module_index, procedure) => {
-                self.name_of_procedure(functions, module_index, procedure)
-            }
+            FunctionMatch::Procedure {
+                module_index,
+                procedure,
+            } => { self.name_of_procedure(functions, module_index, procedure) }
         }
     }
 }

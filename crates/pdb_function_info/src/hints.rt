@@ -5,7 +5,7 @@ use std::alloc::{AllocError, Global};
 // How many homes there are at first.
 const FEWEST_HOMES: usize = 16;
 
-// How many slots next to one another a hint may stand at: its home, and those behind it.
+// How many slots next to one another a hint may stand at: its home, and those after it.
 const NEIGHBOURS: usize = 8;
 
 // Hints at where entries stand in a list, by their numbers.

@@ -4,10 +4,10 @@ ghost use Rattle.std.specs.Prelude.{◌≡◌, option_map, string_bytes, IfOk};
 ghost use Rattle.std.specs.Option.{option_copied};
 ghost use Rattle.pdb_records.specs.Names.{lossy};
 ghost use Rattle.pdb_functions.specs.Procedures.{module_procedure};
-ghost use Rattle.pdb_functions.specs.FoundFunctions.{found_function};
+ghost use Rattle.pdb_functions.specs.FunctionMatches.{function_match};
 ghost use Rattle.pdb_function_info.specs.NameTexts.{is_decorated, decorated_at, decorated_instead, symbol_name};
 
-use pdb_functions::{FoundFunction, GlobalFunctionTable, ProcedureSymbolFunction};
+use pdb_functions::{FunctionMatch, GlobalFunctionTable, ProcedureSymbolFunction};
 use pdb_records::{PdbInternalSectionOffset, RawString};
 use pdb_tables::Probes;
 use std::alloc::{AllocError, Global};
@@ -43,12 +43,12 @@ pub(crate) fn text_of_name(
 }
 
 /// The name of the symbol of a function that was found. A placeholder has none.
-pub fn symbol_name(alloc: Global, found: FoundFunction<'_>) -> Result<Option<String>, AllocError>
-    ensures { IfOk result (λ name. option_map string_bytes name ≡ symbol_name (found_function found.entry)) }
+pub fn symbol_name(alloc: Global, found: FunctionMatch<'_>) -> Result<Option<String>, AllocError>
+    ensures { IfOk result (λ name. option_map string_bytes name ≡ symbol_name (function_match found.entry)) }
 {
     match found {
-        FoundFunction::Global(_, function, _) => text_of_name(alloc, function.name),
-        FoundFunction::Procedure(_, procedure) => text_of_name(alloc, Some(procedure.name)),
+        FunctionMatch::Global { function, .. } => text_of_name(alloc, function.name),
+        FunctionMatch::Procedure { procedure, .. } => text_of_name(alloc, Some(procedure.name)),
     }
 }
 

@@ -2,14 +2,14 @@
 
 ghost use Rattle.std.specs.Prelude.{◌≡◌, ◌≢◌, None, option_map, string_bytes, OnOk, MatchResult};
 ghost use Rattle.pdb_errors.specs.declared.error.Error.TheVariants.{OutOfMemory};
-ghost use Rattle.pdb_documents.specs.BrokenParts.{AddsBroken};
-ghost use Rattle.pdb_documents.specs.Printed.{signature_run};
-ghost use Rattle.pdb_documents.specs.PrintInputs.{formatter_inputs};
+ghost use Rattle.pdb_type_texts.specs.BrokenParts.{AddsBroken};
+ghost use Rattle.pdb_type_texts.specs.Printed.{signature_run};
+ghost use Rattle.pdb_type_texts.specs.PrintInputs.{formatter_inputs};
 ghost use Rattle.pdb_function_info.specs.NameTexts.{signature_text, id_name, failed_by_id};
 
-use pdb_errors::{Error, ModuleProvider, Result};
-use pdb_records::{IdIndex, TypeIndex};
-use pdb_signatures::TypeFormatter;
+use pdb_errors::{Error, Result};
+use pdb_records::{IdIndex, ModuleProvider, TypeIndex};
+use pdb_type_printer::TypeFormatter;
 
 // No text, where there is an error in its place. Answers `OutOfMemory` where memory runs out.
 fn no_text_for(error: Error) -> Result<Option<String>>

@@ -1,4 +1,4 @@
--- Which of two intervals comes before the other, and intervals of which each lies before or behind the others.
+-- Which of two intervals comes before the other, and intervals of which each lies before or after the others.
 use Rattle.std.proofs.Common.{◌≡◌, ◌∙◌, ◌<◌, ◌≤◌, ℕ, Bool, true, false, cond, List, [], ◌∷◌, refl, sym, inl, inr, arith}
 use Rattle.std.specs.Prelude.{◌⊎◌, ⊤, nat_lt, max}
 use Rattle.std.specs.List.{AllByRecursion}
@@ -7,9 +7,9 @@ use Rattle.std.specs.Cmp.{nat_cmp_is}
 use Rattle.std.specs.declared.cmp.Ordering.{Ordering}
 use Rattle.std.specs.declared.cmp.Ordering.TheVariants.{Less, Equal, Greater}
 use Rattle.std.proofs.lemmas.Cmp.{ranked}
-use Rattle.pdb_functions.specs.declared.contributions.ModuleSectionContribution.{ModuleSectionContribution}
+use Rattle.pdb_functions.specs.declared.merged_contributions.ModuleSectionContribution.{ModuleSectionContribution}
 use Rattle.pdb_tables.specs.InOrder.{put, in_order}
-use Rattle.pdb_functions.specs.Contributions.{is_same_module, contribution_before, intervals_with, intervals_of}
+use Rattle.pdb_functions.specs.MergedContributions.{is_same_module, contribution_before, intervals_with, intervals_of}
 use Rattle.pdb_functions.specs.ReadingOrder.{AreOnly}
 use Rattle.pdb_functions.specs.LookupLaws.{IsFilled, LiesBefore, AreApart}
 use Rattle.pdb_tables.proofs.NumberLemmas.{cases_lt}
@@ -37,7 +37,7 @@ starts_before a b (inr start) =
     let offset = nat_cmp_is a.start_offset b.start_offset Less start.1 in
     rw (← section, ← offset) refl
 
--- what isn't less at first nor behind it isn't less
+-- what isn't less at first nor after it isn't less
 then_not_less : (o p : Ordering) → is_lt o ≡ false → is_lt p ≡ false → is_lt (ordering_then o p) ≡ false
 then_not_less Less p first second = first
 then_not_less Equal p first second = second
@@ -64,7 +64,7 @@ before_when_lies a b filled (inr one) = starts_before a b (inr (one.0, omega (ar
 pub behind_when_lies : (a b : ModuleSectionContribution) → IsFilled a → LiesBefore a b → contribution_before b a ≡ false
 behind_when_lies a b filled lies = contributions_rank.one_way a b (before_when_lies a b filled lies)
 
--- what comes behind one of its module and section starts no earlier
+-- what comes after one of its module and section starts no earlier
 pub starts_behind : (a b : ModuleSectionContribution) → contribution_before b a ≡ false → is_same_module a b ≡ true
     → a.start_offset ≤ b.start_offset
 starts_behind a b behind same = by_test (cases_lt b.start_offset a.start_offset) where
@@ -90,7 +90,7 @@ IsClear a b = LiesBefore a b ⊎ LiesBefore b a
 abbrev pub IsClearOfOther : ModuleSectionContribution → ModuleSectionContribution → Type 0
 IsClearOfOther a b = is_same_module a b ≡ false → IsClear a b
 
--- each lies before or behind each that follows
+-- each lies before or after each that follows
 abbrev pub AreClear : List ModuleSectionContribution → Type 0
 AreClear [] = ⊤
 AreClear (m ∷ ms) = AllByRecursion (IsClear m) ms × AreClear ms
@@ -100,7 +100,7 @@ abbrev pub NoneFalls : List ModuleSectionContribution → Type 0
 NoneFalls [] = ⊤
 NoneFalls (m ∷ ms) = AllByRecursion (IsNoEarlier m) ms × NoneFalls ms
 
--- what lies before and behind is not changed by which is first
+-- what lies before and after is not changed by which is first
 clear_back : (a b : ModuleSectionContribution) → IsClear a b → IsClear b a
 clear_back a b (inl lies) = inr lies
 clear_back a b (inr lies) = inl lies
@@ -136,7 +136,7 @@ pub lies_before_second : (a b x : ModuleSectionContribution) → a.section_index
 lies_before_second a b x same up (inl section) = inl (omega arith)
 lies_before_second a b x same up (inr one) = inr (omega (arith, one.0), omega (arith, one.1))
 
--- what lies before or behind two that are joined lies so of the first
+-- what lies before or after two that are joined lies so of the first
 clear_of_first : (a b x : ModuleSectionContribution) → IsClear (joined a b) x → IsClear a x
 clear_of_first a b x (inl lies) = inl (first_lies a b x lies)
 clear_of_first a b x (inr lies) = inr lies
@@ -169,7 +169,7 @@ other_of_claims c (m ∷ ms) others =
     let apart = other_with c m (intervals_of ms) others in
     (apart.0, other_of_claims c ms apart.1)
 
--- where each interval is the only one of its module and section, so is each behind the first claim
+-- where each interval is the only one of its module and section, so is each after the first claim
 pub only_behind : (m : ModuleSectionContribution) (xs : List ModuleSectionContribution) → AreOnly (intervals_with m xs)
     → AreOnly xs
 only_behind m [] only = tt
@@ -215,7 +215,7 @@ intervals_behind c (m ∷ ms) up = behind_with (intervals_of ms) (intervals_behi
     by_test true = (up.0, rest.1)
     by_test false = (up.0, rest)
 
--- intervals that are apart lie each before or behind the others
+-- intervals that are apart lie each before or after the others
 pub clear_of_apart : (ms : List ModuleSectionContribution) → AreApart ms → AreClear ms
 clear_of_apart [] apart = tt
 clear_of_apart (m ∷ ms) apart =
@@ -235,14 +235,14 @@ clear_of_put x (y ∷ ys) clear = by_test (contribution_before y x) (clear_of_pu
       ((clear_back y x taken.0, behind.0), (taken.1, behind.1))
   by_test false rest here = here
 
--- what lies each before or behind the others in order does so in any order
+-- what lies each before or after the others in order does so in any order
 pub clear_of_order : (xs : List ModuleSectionContribution) → AreClear (in_order contribution_before xs) → AreClear xs
 clear_of_order [] clear = tt
 clear_of_order (x ∷ xs) clear =
     let taken = clear_of_put x (in_order contribution_before xs) clear in
     (all_of_order contribution_before (IsClear x) xs taken.0, clear_of_order xs taken.1)
 
--- intervals behind a claim are clear where those with it are
+-- intervals after a claim are clear where those with it are
 pub clear_behind : (c : ModuleSectionContribution) (xs : List ModuleSectionContribution)
     → AllByRecursion (StartsBehind c) xs → AreClear (intervals_with c xs) → AreClear xs
 clear_behind c [] up clear = tt
@@ -267,7 +267,7 @@ clear_of_others c (x ∷ xs) clear = by_test (is_same_module c x) refl clear whe
       (λ other. absurd (cc), all_weaker (IsClear (joined c x)) (IsClearOfOther c) so xs here.0)
   by_test false other here = all_weaker (IsClear c) (IsClearOfOther c) (λ y clear_y other. clear_y) (x ∷ xs) here.0
 
--- what is clear of the others with a claim is so of those behind it, where none of them starts earlier
+-- what is clear of the others with a claim is so of those after it, where none of them starts earlier
 pub clear_of_others_behind : (c s : ModuleSectionContribution) (xs : List ModuleSectionContribution)
     → AllByRecursion (StartsBehind s) xs → AllByRecursion (IsClearOfOther c) (intervals_with s xs)
     → AllByRecursion (IsClearOfOther c) xs

@@ -5,9 +5,9 @@ use Rattle.std.specs.Cmp.{IsTotalOrder, IsStrictWeakOrder}
 use Rattle.std.proofs.lemmas.Cmp.{then_total, on_total, nat_cmp_total}
 use Rattle.std.proofs.lemmas.List.Sorted.{ranks_by}
 use Rattle.pdb_errors.specs.declared.error.Error.{Error}
-use Rattle.pdb_functions.specs.declared.contributions.ModuleSectionContribution.{ModuleSectionContribution}
+use Rattle.pdb_functions.specs.declared.merged_contributions.ModuleSectionContribution.{ModuleSectionContribution}
 use Rattle.pdb_errors.specs.Outcomes.{first_refusal}
-use Rattle.pdb_functions.specs.Contributions.{contribution_cmp, contribution_before}
+use Rattle.pdb_functions.specs.MergedContributions.{contribution_cmp, contribution_before}
 use Rattle.pdb_functions.specs.LookupLaws.{IsFilled, LiesBefore}
 
 -- contributions have one order

@@ -7,8 +7,8 @@ use Rattle.std.proofs.lemmas.Bool.Decides.{nat_tests}
 use Rattle.std.proofs.Math.Nat.{max-eq_left, max-eq_right}
 use Rattle.pdb_errors.specs.declared.error.Error.{Error}
 use Rattle.pdb_errors.specs.declared.error.Error.TheVariants.{OverlappingSectionContributions}
-use Rattle.pdb_functions.specs.declared.contributions.ModuleSectionContribution.{ModuleSectionContribution}
-use Rattle.pdb_functions.specs.Contributions.{is_same_module, intervals_with, intervals_of, overlap_after}
+use Rattle.pdb_functions.specs.declared.merged_contributions.ModuleSectionContribution.{ModuleSectionContribution}
+use Rattle.pdb_functions.specs.MergedContributions.{is_same_module, intervals_with, intervals_of, overlap_after}
 use Rattle.pdb_functions.specs.LookupLaws.{IsFilled, LiesBefore, AreApart, lies_in, LiesInOneOf}
 use Rattle.pdb_functions.specs.LookupLaws.{IsApartFrom, NeighboursDiffer, HasByteOf, IsOverlap}
 use Rattle.pdb_tables.proofs.NumberLemmas.{cases_lt, cases_le, le-leb, eqb_same}
@@ -33,7 +33,7 @@ intervals_differ (m ∷ ms) = with_first (intervals_of ms) (intervals_differ ms)
     by_test true same = longer i is (max m.end_offset i.end_offset) same differ
     by_test false apart = (apart, differ)
 
--- a claim that lies in one of some intervals lies behind what lies before them all
+-- a claim that lies in one of some intervals lies after what lies before them all
 pub lies_behind : (t c : ModuleSectionContribution) (ts : List ModuleSectionContribution)
     → AllByRecursion (LiesBefore t) ts → list_any (lies_in c) ts ≡ true → t.section_index ≡ c.section_index
     → t.end_offset ≤ c.start_offset

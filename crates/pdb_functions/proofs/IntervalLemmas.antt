@@ -9,9 +9,9 @@ use Rattle.std.specs.declared.cmp.Ordering.TheVariants.{Less, Equal, Greater}
 use Rattle.std.proofs.lemmas.Cmp.{ranked}
 use Rattle.std.proofs.lemmas.Bool.Decides.{nat_tests}
 use Rattle.std.proofs.Math.Nat.{le-max_left, max-eq_left, max-eq_right}
-use Rattle.pdb_functions.specs.declared.contributions.ModuleSectionContribution.{ModuleSectionContribution}
-use Rattle.pdb_functions.specs.Contributions.{is_same_module, contribution_before, intervals_with, intervals_of}
-use Rattle.pdb_functions.specs.Contributions.{refused_overlap, overlap_after}
+use Rattle.pdb_functions.specs.declared.merged_contributions.ModuleSectionContribution.{ModuleSectionContribution}
+use Rattle.pdb_functions.specs.MergedContributions.{is_same_module, contribution_before, intervals_with, intervals_of}
+use Rattle.pdb_functions.specs.MergedContributions.{refused_overlap, overlap_after}
 use Rattle.pdb_functions.specs.LookupLaws.{IsFilled, LiesBefore, AreApart, lies_in, LiesInOneOf, BeginsWithOneOf}
 use Rattle.pdb_functions.specs.LookupLaws.{EndsWithOneOf}
 use Rattle.pdb_tables.proofs.NumberLemmas.{cases_lt, cases_le, le-leb, eqb_same}

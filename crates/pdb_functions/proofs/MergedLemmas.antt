@@ -13,11 +13,11 @@ use Rattle.pdb_errors.specs.declared.error.Error.{Error}
 use Rattle.pdb_errors.specs.declared.error.Error.TheVariants.{PdbError, SectionContributionEndTooLarge}
 use Rattle.pdb_errors.specs.declared.error.Error.TheVariants.{OverlappingSectionContributions}
 use Rattle.pdb_errors.specs.Outcomes.{unless}
-use Rattle.pdb_functions.specs.declared.contributions.ModuleSectionContribution.{ModuleSectionContribution}
+use Rattle.pdb_functions.specs.declared.merged_contributions.ModuleSectionContribution.{ModuleSectionContribution}
 use Rattle.pdb_tables.specs.InOrder.{in_order}
-use Rattle.pdb_functions.specs.Contributions.{is_counted, claimed, claims, is_same_module, refused_ends}
-use Rattle.pdb_functions.specs.Contributions.{reading_refusal, contribution_before, ordered_claims, intervals_of}
-use Rattle.pdb_functions.specs.Contributions.{overlap_after, merged_contributions}
+use Rattle.pdb_functions.specs.MergedContributions.{is_counted, claimed, claims, is_same_module, refused_ends}
+use Rattle.pdb_functions.specs.MergedContributions.{reading_refusal, contribution_before, ordered_claims, intervals_of}
+use Rattle.pdb_functions.specs.MergedContributions.{overlap_after, merged_contributions}
 use Rattle.pdb_functions.specs.LookupLaws.{IsFilled, AreApart, LiesInOneOf, BeginsWithOneOf, EndsWithOneOf}
 use Rattle.pdb_functions.specs.LookupLaws.{IsApartFrom, NeighboursDiffer, IsOverlap}
 use Rattle.pdb_tables.proofs.NumberLemmas.{cases_lt}
@@ -193,7 +193,7 @@ pub refused_for_end : (sections : List ImageSectionHeader) (debug : DebugInforma
 refused_for_end sections debug claim is =
     rw (ends_refused (claims sections debug.section_contributions.items) claim is) refl
 
--- the second refusal is of the fault behind the contributions
+-- the second refusal is of the fault after the contributions
 pub refused_for_fault : (sections : List ImageSectionHeader) (debug : DebugInformation) (fault : StreamError)
     → find (λ c. nat_le (2 ^ 32) c.end_offset) (claims sections debug.section_contributions.items) ≡ None
     → debug.section_contributions.fault ≡ Some fault

@@ -9,8 +9,8 @@ use Rattle.pdb_records.specs.declared.modules.ModuleInfo.{ModuleInfo}
 use Rattle.pdb_tables.specs.Slots.{held}
 use Rattle.pdb_tables.proofs.NumberLemmas.{eqb_same}
 use Rattle.pdb_tables.proofs.SlotLemmas.{held_put, none_held}
-use Rattle.pdb_errors.specs.Provided.{ProviderInfos}
-use Rattle.pdb_functions.specs.ModuleInfos.{readable_info, IsModuleInfoCache, IsCachedInfo}
+use Rattle.pdb_records.specs.Provided.{ProviderInfos}
+use Rattle.pdb_functions.specs.ModuleInfoCache.{readable_info, IsModuleInfoCache, IsCachedInfo}
 use Rattle.pdb_functions.specs.declared.named_info.NamedInfo.{NamedInfo}
 
 -- where nothing is cached, that is a cache of any modules

@@ -11,7 +11,7 @@ use Rattle.pdb_tables.specs.Pick.{pick}
 use Rattle.pdb_functions.specs.declared.global_functions.GlobalFunction as code
 use Rattle.pdb_functions.specs.GlobalFunctions.{GlobalFunction, global_function}
 use Rattle.pdb_tables.specs.Last.{ahead_of, last_over}
-use Rattle.pdb_functions.specs.FoundFunctions.{global_at, next_global, where_passes}
+use Rattle.pdb_functions.specs.FunctionMatches.{global_at, next_global, where_passes}
 use Rattle.pdb_functions.specs.Spans.{global_function_covers}
 use Rattle.pdb_functions.specs.Starts.{is_before, StartsAscend}
 use Rattle.pdb_tables.proofs.LastLemmas.{pick-last}
@@ -80,7 +80,7 @@ find_none : {T : Type 0} (over : T → Bool) (xs : List T) → AllByRecursion (�
 find_none over [] none = refl
 find_none over (x ∷ xs) none = rw none.0 (find_none over xs none.1)
 
--- a test that fails of all that stand behind a start fails of all that follow it
+-- a test that fails of all that stand after a start fails of all that follow it
 none_behind : {T : Type 0} (start : T → PdbInternalSectionOffset) (over : PdbInternalSectionOffset → Bool)
     (s : PdbInternalSectionOffset)
     → ((r : PdbInternalSectionOffset) → is_before s r ≡ true → over r ≡ false) → (xs : List T)
@@ -161,7 +161,7 @@ over_from_last section_offset fs up =
         let h = rw (is_before_test section_offset s) at up_to in let k = rw (is_before_test r s) at before in
         grind (arith, nat_tests)
 
--- the next function of the section is the first one behind the section offset, where that starts in the section
+-- the next function of the section is the first one after the section offset, where that starts in the section
 pub next_from_first : (section_offset : PdbInternalSectionOffset) (fs : List GlobalFunction)
     → StartsAscend (λ f. f.start) fs
     → where_passes (λ f. f.start.section == section_offset.section) (find (λ f. is_before section_offset f.start) fs)
@@ -228,7 +228,7 @@ first_of_all : {T : Type 0} (p : T → Bool) (xs : List T) → AllByRecursion (�
 first_of_all p [] all = refl
 first_of_all p (x ∷ xs) all = rw all.0 refl
 
--- of what ascends the first one behind the element ahead of a place stands at that place
+-- of what ascends the first one after the element ahead of a place stands at that place
 first_behind : {T : Type 0} (start : T → PdbInternalSectionOffset) (xs : List T) (place : ℕ) (x : T)
     → StartsAscend start xs → ahead_of None xs place ≡ Some x
     → find (λ y. is_before (start x) (start y)) xs ≡ slice_get xs place
@@ -248,7 +248,7 @@ first_behind start (y ∷ ys) (suc (suc place)) x up at =
     behind : (r s : PdbInternalSectionOffset) → is_before r s ≡ true → is_before s r ≡ false
     behind r s before = let h = rw (is_before_test r s) at before in is_before_test s r ∙ grind (arith, nat_tests)
 
--- where the one ahead of a place starts at a section offset, the first one behind that stands at the place
+-- where the one ahead of a place starts at a section offset, the first one after that stands at the place
 pub behind_from_place : (section_offset : PdbInternalSectionOffset) (fs : List code.GlobalFunction) (place : ℕ)
     (ahead starting : Option code.GlobalFunction) → StartsAscend (λ f. f.start_offset) fs → ahead ≡ ahead_of None fs place
     → option_map global_function starting

@@ -16,7 +16,7 @@ last_there : (a b : Option ModuleProcedure) (p : ModuleProcedure) (ps : List Mod
 last_there a b p [] = refl
 last_there a b p (q ∷ qs) = last_there a b q qs
 
--- the last procedure that counts, behind one more and others, is the last of all of them
+-- the last procedure that counts, after one more and others, is the last of all of them
 last_of_all : (last one : Option ModuleProcedure) (ps : List ModuleProcedure)
     → last_counted (last_counted last one) (last_procedure ps) ≡ last_counted last
     (last_procedure (option_to_list one ++ ps))
@@ -55,7 +55,7 @@ behind_last at last (x ∷ xs) symbol =
           (option_to_list (procedure_at (at + length (x ∷ xs))
           (last_counted last (last_procedure (option_to_list one ++ ps))) symbol)))
 
--- a procedure that may be there, behind none, is itself
+-- a procedure that may be there, after none, is itself
 last_counted_alone : (one : Option ModuleProcedure) → last_counted None one ≡ one
 last_counted_alone None = refl
 last_counted_alone (Some p) = refl
@@ -72,7 +72,7 @@ behind_last_of_all symbols symbol =
     (procedure_at k (last_procedure (procedures_from 0 None symbols)) symbol))
     (let e : 0 + length symbols ≡ length symbols = omega arith in e)
 
--- a fault behind a module's symbols leaves no procedure
+-- a fault after a module's symbols leaves no procedure
 pub none_with_fault : (info : ModuleInfo) (fault : StreamError) → info.symbols.fault ≡ Some fault
     → info_procedures info ≡ []
 none_with_fault info fault is = rw (is, info_procedures) refl

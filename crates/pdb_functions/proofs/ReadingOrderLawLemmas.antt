@@ -9,10 +9,10 @@ use Rattle.pdb_records.specs.declared.error.Error.TheVariants.{Stream}
 use Rattle.pdb_errors.specs.declared.error.Error.{Error}
 use Rattle.pdb_errors.specs.declared.error.Error.TheVariants.{PdbError}
 use Rattle.pdb_errors.specs.Outcomes.{first_refusal, unless}
-use Rattle.pdb_functions.specs.declared.contributions.ModuleSectionContribution.{ModuleSectionContribution}
+use Rattle.pdb_functions.specs.declared.merged_contributions.ModuleSectionContribution.{ModuleSectionContribution}
 use Rattle.pdb_tables.specs.InOrder.{put, in_order}
-use Rattle.pdb_functions.specs.Contributions.{claims, is_same_module, refused_ends, contribution_before, intervals_with}
-use Rattle.pdb_functions.specs.Contributions.{intervals_of, overlap_after, merged_contributions}
+use Rattle.pdb_functions.specs.MergedContributions.{claims, is_same_module, refused_ends, contribution_before, intervals_with}
+use Rattle.pdb_functions.specs.MergedContributions.{intervals_of, overlap_after, merged_contributions}
 use Rattle.pdb_functions.specs.ReadingOrder.{AreOnly, StartsNeverFall, reading_intervals, refusal_after}
 use Rattle.pdb_functions.specs.ReadingOrder.{joining_refusal, merged_in_reading_order}
 use Rattle.pdb_functions.specs.LookupLaws.{IsFilled, LiesBefore}
@@ -218,7 +218,7 @@ intervals_in_order (m ∷ ms) filled up only clear =
         ∙ (ap (with_claim m) rest
         ∙ sym (in_order_with m (intervals_of ms) filled.0 (intervals_filled ms filled.1) behind only clear))
 
--- intervals in order of which none overlaps the next lie each before or behind the others
+-- intervals in order of which none overlaps the next lie each before or after the others
 pub clear_of_accepted : (ms : List ModuleSectionContribution) → AllByRecursion IsFilled ms
     → overlap_after None (in_order contribution_before ms) ≡ None → AreClear ms
 clear_of_accepted ms filled accepted =

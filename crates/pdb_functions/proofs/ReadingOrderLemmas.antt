@@ -3,10 +3,10 @@ use Rattle.std.proofs.Common.{◌≡◌, ◌∙◌, ◌<◌, ◌≤◌, ℕ, Boo
 use Rattle.std.proofs.Common.{Some, None, refl, sym, ap, inl, inr, arith}
 use Rattle.std.specs.Prelude.{◌⊎◌, ⊤, nat_lt, max}
 use Rattle.pdb_errors.specs.declared.error.Error.{Error}
-use Rattle.pdb_functions.specs.declared.contributions.ModuleSectionContribution.{ModuleSectionContribution}
+use Rattle.pdb_functions.specs.declared.merged_contributions.ModuleSectionContribution.{ModuleSectionContribution}
 use Rattle.pdb_errors.specs.Outcomes.{first_refusal}
-use Rattle.pdb_functions.specs.Contributions.{claims, is_same_module, refused_end, refused_ends}
-use Rattle.pdb_functions.specs.Contributions.{intervals_with, intervals_of}
+use Rattle.pdb_functions.specs.MergedContributions.{claims, is_same_module, refused_end, refused_ends}
+use Rattle.pdb_functions.specs.MergedContributions.{intervals_with, intervals_of}
 use Rattle.pdb_functions.specs.ReadingOrder.{interval_after, reading_intervals, refused_order, refusal_after}
 use Rattle.pdb_functions.specs.ReadingOrder.{StartsNeverFall}
 use Rattle.pdb_tables.proofs.NumberLemmas.{cases_lt, eqb_same}
@@ -73,14 +73,14 @@ ends_no_earlier interval claim same accepted = by_test (cases_lt claim.end_offse
 max_second : (a b : ℕ) → a ≤ b → max a b ≡ b
 max_second a b up = omega arith
 
--- what is not refused behind an open interval
+-- what is not refused after an open interval
 pub record IsAccepted (interval claim : ModuleSectionContribution) (claims : List ModuleSectionContribution) : Type 0
   where
     pub end : refused_end claim ≡ None
     pub order : refused_order (Some interval) claim ≡ None
     pub behind : refusal_after (Some (interval_after (Some interval) claim)) claims ≡ None
 
--- no refusal of several claims is none of the first and none behind it
+-- no refusal of several claims is none of the first and none after it
 pub is_accepted : (interval claim : ModuleSectionContribution) (claims : List ModuleSectionContribution)
     → refusal_after (Some interval) (claim ∷ claims) ≡ None → IsAccepted interval claim claims
 is_accepted interval claim claims accepted =
@@ -166,7 +166,7 @@ goes_on interval m = by_test (is_same_module interval m) refl where
   by_test true same = (same, refl)
   by_test false other = (same_itself m, refl)
 
--- where nothing is refused and starts never fall, neighbours never fall behind an open interval
+-- where nothing is refused and starts never fall, neighbours never fall after an open interval
 pub never_fall_behind : (interval before : ModuleSectionContribution) (ms : List ModuleSectionContribution)
     → is_same_module interval before ≡ true → interval.end_offset ≡ before.end_offset
     → refusal_after (Some interval) ms ≡ None

@@ -19,11 +19,11 @@ use Rattle.pdb_tables.specs.Keyed.{is_lower, is_same_key, firsts_after}
 use Rattle.pdb_tables.specs.Pick.{pick, IsPick, IsPicked}
 use Rattle.pdb_tables.proofs.PickLemmas.{pick_is_picked}
 use Rattle.pdb_tables.proofs.SortLemmas.{all_put}
-use Rattle.pdb_functions.specs.declared.contributions.ModuleSectionContribution.{ModuleSectionContribution}
+use Rattle.pdb_functions.specs.declared.merged_contributions.ModuleSectionContribution.{ModuleSectionContribution}
 use Rattle.pdb_functions.specs.GlobalFunctions.{GlobalFunction}
-use Rattle.pdb_errors.specs.Provided.{ProviderInfos}
-use Rattle.pdb_functions.specs.FoundFunctions.{procedures_of_module, found_global}
-use Rattle.pdb_functions.specs.FoundFunctions.{found_or_global, function_in_contribution, function_over}
+use Rattle.pdb_records.specs.Provided.{ProviderInfos}
+use Rattle.pdb_functions.specs.FunctionMatches.{procedures_of_module, found_global}
+use Rattle.pdb_functions.specs.FunctionMatches.{found_or_global, function_in_contribution, function_over}
 use Rattle.pdb_functions.specs.Procedures.{ModuleProcedure, unless_empty, procedure_data, procedure_at, last_counted}
 use Rattle.pdb_functions.specs.Procedures.{procedures_from, symbol_procedures, info_procedures, provided_procedures}
 use Rattle.pdb_functions.specs.Spans.{contribution_covers, procedure_covers, global_function_covers}
@@ -79,7 +79,7 @@ shown_of at last symbol = by_test (is_code_kind symbol.raw_kind) where
 
 -- ---- what all symbols show
 
--- a procedure is of a symbol at a position or behind it
+-- a procedure is of a symbol at a position or after it
 abbrev IsFrom : ℕ → ModuleProcedure → Type 0
 IsFrom at p = at ≤ p.symbol_index.0
 
@@ -88,13 +88,13 @@ abbrev pub SymbolsDiffer : List ModuleProcedure → Type 0
 SymbolsDiffer [] = ⊤
 SymbolsDiffer (p ∷ ps) = AllByRecursion (λ q. (p.symbol_index.0 == q.symbol_index.0) ≡ false) ps × SymbolsDiffer ps
 
--- what is behind the next position is behind this one
+-- what is after the next position is after this one
 from_earlier : (at : ℕ) (ps : List ModuleProcedure) → AllByRecursion (IsFrom (at + 1)) ps
     → AllByRecursion (IsFrom at) ps
 from_earlier at [] all = tt
 from_earlier at (p ∷ ps) all = (omega (arith, all.0), from_earlier at ps all.1)
 
--- what is behind a position is of another symbol than the one there
+-- what is after a position is of another symbol than the one there
 others_differ : (p : ModuleProcedure) (at : ℕ) (ps : List ModuleProcedure) → IsOf at p
     → AllByRecursion (IsFrom (at + 1)) ps → AllByRecursion (λ q. (p.symbol_index.0 == q.symbol_index.0) ≡ false) ps
 others_differ p at [] is all = tt

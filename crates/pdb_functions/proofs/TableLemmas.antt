@@ -38,7 +38,7 @@ last_procedure section_offset ps up =
         → p.offset.section ≡ section_offset.section
     within p covers = grind (arith, nat_tests)
 
--- what starts behind a section offset doesn't lie over it, nor does what follows it
+-- what starts after a section offset doesn't lie over it, nor does what follows it
 none_covers_behind : (section_offset : PdbInternalSectionOffset) (before : Option ProcedureSymbolFunction)
     (p : ProcedureSymbolFunction) (ps : List ProcedureSymbolFunction)
     → is_before section_offset p.offset ≡ true → StartsAscend (λ q. q.offset) (p ∷ ps)
@@ -55,7 +55,7 @@ none_covers_behind section_offset before p (q ∷ qs) behind up =
     rw (is_before_test section_offset q.offset) (grind (arith, nat_tests)) in
     rw fails (none_covers_behind section_offset before q qs next up.1)
 
--- of procedures that ascend one over a section offset is the last where the next one starts behind it
+-- of procedures that ascend one over a section offset is the last where the next one starts after it
 pub last_at_position : (section_offset : PdbInternalSectionOffset) (ps : List ProcedureSymbolFunction) (position : ℕ)
     (p : ProcedureSymbolFunction) → StartsAscend (λ q. q.offset) ps → slice_get ps position ≡ Some p
     → procedure_covers section_offset (module_procedure p) ≡ true

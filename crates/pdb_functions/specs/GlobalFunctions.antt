@@ -10,8 +10,8 @@ use Rattle.pdb_records.specs.declared.symbols.Symbol.{Symbol}
 use Rattle.pdb_records.specs.declared.symbols.SymbolData.{SymbolData}
 use Rattle.pdb_records.specs.declared.symbols.SymbolData.TheVariants.{Public}
 use Rattle.pdb_functions.specs.declared.global_functions.GlobalFunction as code
-use Rattle.pdb_functions.specs.Sections.{is_executable, section_ends}
-use Rattle.pdb_functions.specs.Contributions.{contribution_starts}
+use Rattle.pdb_functions.specs.CodeSections.{is_executable, section_ends}
+use Rattle.pdb_functions.specs.MergedContributions.{contribution_starts}
 use Rattle.pdb_functions.specs.Starts.{first_of_each_start}
 
 -- where a function starts, and its name where it has one

@@ -1,5 +1,5 @@
-pub mod Sections
-pub mod Contributions
+pub mod CodeSections
+pub mod MergedContributions
 pub mod ReadingOrder
 pub mod Starts
 pub mod GlobalFunctions
@@ -7,7 +7,7 @@ pub mod Procedures
 pub mod Spans
 pub mod Keys
 pub mod SectionTables
-pub mod FoundFunctions
-pub mod ModuleInfos
+pub mod FunctionMatches
+pub mod ModuleInfoCache
 pub mod SymbolNames
 pub mod LookupLaws

@@ -38,7 +38,7 @@ module_procedure p = record {
 abbrev pub unless_empty : ModuleProcedure → Option ModuleProcedure
 unless_empty procedure = if nat_lt 0 procedure.len then Some procedure else None
 
--- what a symbol holds, as a procedure behind the last one that counts: code apart from its body takes the name and the
+-- what a symbol holds, as a procedure after the last one that counts: code apart from its body takes the name and the
 -- type of that one, where it starts at the parent's section offset
 abbrev pub procedure_data : ℕ → Option ModuleProcedure → Option SymbolData → Option ModuleProcedure
 procedure_data at last (Some (Procedure s)) =
@@ -72,7 +72,7 @@ procedure_data at last (Some (Thunk s)) =
     })
 procedure_data at last other = None
 
--- the procedure that a symbol at a position shows, behind the last one that counts
+-- the procedure that a symbol at a position shows, after the last one that counts
 abbrev pub procedure_at : ℕ → Option ModuleProcedure → Symbol → Option ModuleProcedure
 procedure_at at last symbol = if is_code_kind symbol.raw_kind then procedure_data at last symbol.content else None
 
@@ -81,7 +81,7 @@ abbrev pub last_counted : Option ModuleProcedure → Option ModuleProcedure → 
 last_counted last None = last
 last_counted last (Some procedure) = Some procedure
 
--- the procedures that symbols from a position on show, in reading order, behind the last one that counts
+-- the procedures that symbols from a position on show, in reading order, after the last one that counts
 abbrev pub procedures_from : ℕ → Option ModuleProcedure → List Symbol → List ModuleProcedure
 procedures_from at last [] = []
 procedures_from at last (symbol ∷ symbols) =

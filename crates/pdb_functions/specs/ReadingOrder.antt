@@ -9,12 +9,12 @@ use Rattle.pdb_records.specs.declared.debug_information.SectionContribution.{Sec
 use Rattle.pdb_records.specs.declared.debug_information.DebugInformation.{DebugInformation}
 use Rattle.pdb_errors.specs.declared.error.Error.{Error}
 use Rattle.pdb_errors.specs.declared.error.Error.TheVariants.{PdbError, UnorderedSectionContributions}
-use Rattle.pdb_functions.specs.declared.contributions.ModuleSectionContribution.{ModuleSectionContribution}
+use Rattle.pdb_functions.specs.declared.merged_contributions.ModuleSectionContribution.{ModuleSectionContribution}
 use Rattle.pdb_tables.specs.InOrder.{in_order}
 use Rattle.pdb_errors.specs.Outcomes.{first_refusal, unless}
-use Rattle.pdb_functions.specs.Contributions.{claims, is_same_module, refused_end, overlap_after, contribution_before}
+use Rattle.pdb_functions.specs.MergedContributions.{claims, is_same_module, refused_end, overlap_after, contribution_before}
 
--- the interval that a claim stands in, behind what came before: the first start stays, and the end is the claim's
+-- the interval that a claim stands in, after what came before: the first start stays, and the end is the claim's
 abbrev pub interval_after : Option ModuleSectionContribution → ModuleSectionContribution → ModuleSectionContribution
 interval_after None claim = claim
 interval_after (Some interval) claim =
@@ -26,7 +26,7 @@ abbrev pub interval_ended : Option ModuleSectionContribution → ModuleSectionCo
 interval_ended None claim = []
 interval_ended (Some interval) claim = if is_same_module interval claim then [] else interval ∷ []
 
--- the intervals of neighbours of one module and section, in reading order, behind what came before
+-- the intervals of neighbours of one module and section, in reading order, after what came before
 abbrev pub reading_intervals : Option ModuleSectionContribution → List ModuleSectionContribution
     → List ModuleSectionContribution
 reading_intervals None [] = []
@@ -42,7 +42,7 @@ refused_order (Some interval) claim =
     then Some (UnorderedSectionContributions claim.module_index claim.section_index)
     else None
 
--- the first refusal in reading order, behind what came before
+-- the first refusal in reading order, after what came before
 abbrev pub refusal_after : Option ModuleSectionContribution → List ModuleSectionContribution → Option Error
 refusal_after before [] = None
 refusal_after before (claim ∷ claims) =
@@ -50,7 +50,7 @@ refusal_after before (claim ∷ claims) =
     first_refusal (refused_order before claim) (
     refusal_after (Some (interval_after before claim)) claims))
 
--- the first refusal in reading order: of a contribution, or of the fault behind them
+-- the first refusal in reading order: of a contribution, or of the fault after them
 abbrev pub joining_refusal : List ImageSectionHeader → DebugInformation → Option Error
 joining_refusal sections debug =
     first_refusal (refusal_after None (claims sections debug.section_contributions.items)) (

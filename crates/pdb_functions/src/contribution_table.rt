@@ -4,7 +4,7 @@ ghost use Rattle.std.specs.Prelude.{◌≡◌, ◌+◌, ◌*◌, ◌≤◌, find
 ghost use Rattle.pdb_tables.specs.Probes.{digits};
 ghost use Rattle.pdb_functions.specs.Spans.{contribution_covers};
 
-use crate::contributions::ModuleSectionContribution;
+use crate::merged_contributions::ModuleSectionContribution;
 use crate::span_table::{Keys, Span, find, key, segments_of};
 use pdb_records::PdbInternalSectionOffset;
 use pdb_tables::{Probes, Segments};
@@ -44,7 +44,7 @@ impl Model for ContributionTable {
     ghost use Rattle.std.specs.Prelude.{slice_get, option_and_then};
     ghost use Rattle.pdb_records.specs.declared.addresses.PdbInternalSectionOffset.{PdbInternalSectionOffset};
     ghost use Rattle.pdb_tables.specs.Segments.{value_at};
-    ghost use Rattle.pdb_functions.specs.declared.contributions.ModuleSectionContribution.{ModuleSectionContribution};
+    ghost use Rattle.pdb_functions.specs.declared.merged_contributions.ModuleSectionContribution.{ModuleSectionContribution};
     ghost use Rattle.pdb_functions.specs.Keys.{key};
     ghost use Rattle.pdb_functions.specs.Spans.{contribution_covers};
 
@@ -88,7 +88,7 @@ impl ContributionTable {
         probes: &mut Probes,
     ) -> Option<ModuleSectionContribution>
         ensures answer { result ≡ find (contribution_covers section_offset) self.now }
-        ensures few { probes.new ≤ probes.old + digits (length self.now) + 1 }
+        ensures bound { probes.new ≤ probes.old + digits (length self.now) + 1 }
     {
         find(
             &self.last_first,

@@ -6,7 +6,7 @@ ghost use Rattle.pdb_tables.specs.Pick.{pick};
 ghost use Rattle.pdb_tables.specs.Probes.{digits};
 ghost use Rattle.pdb_functions.specs.GlobalFunctions.{global_function};
 ghost use Rattle.pdb_tables.specs.Last.{last_over};
-ghost use Rattle.pdb_functions.specs.FoundFunctions.{next_global, global_at, where_passes};
+ghost use Rattle.pdb_functions.specs.FunctionMatches.{next_global, global_at, where_passes};
 ghost use Rattle.pdb_functions.specs.Spans.{global_function_covers};
 ghost use Rattle.pdb_functions.specs.Starts.{is_before, StartsAscend};
 
@@ -57,7 +57,7 @@ impl<'a> GlobalFunctionTable<'a> {
         self.functions.len()
     }
 
-    // The functions next to a section offset: the last that starts there or ahead of it, and the first behind it. Each
+    // The functions next to a section offset: the last that starts there or ahead of it, and the first after it. Each
     // function that is looked at counts.
     fn neighbours(
         &self,
@@ -69,7 +69,7 @@ impl<'a> GlobalFunctionTable<'a> {
         ensures behind { option_map global_function result.above
             ≡ find (λ f. is_before section_offset f.start) self.now }
         ensures ascend { StartsAscend (λ f. f.start) self.now }
-        ensures few { probes.new ≤ probes.old + digits (length self.now) }
+        ensures bound { probes.new ≤ probes.old + digits (length self.now) }
     {
         neighbours_of(&self.functions, section_offset, probes)
     }
@@ -87,7 +87,7 @@ impl<'a> GlobalFunctionTable<'a> {
     ) -> Option<GlobalFunction<'a>>
         ensures answer { option_map global_function result
             ≡ pick (global_function_covers section_offset) (λ f. f.start.offset) self.now }
-        ensures few { probes.new ≤ probes.old + digits (length self.now) }
+        ensures bound { probes.new ≤ probes.old + digits (length self.now) }
     {
         let next_to = self.neighbours(section_offset, probes);
         *next_place = next_to.place;
@@ -102,13 +102,13 @@ impl<'a> GlobalFunctionTable<'a> {
         probes: &mut Probes,
     ) -> Option<GlobalFunction<'a>>
         ensures answer { option_map global_function result ≡ global_at start self.now }
-        ensures few { probes.new ≤ probes.old + digits (length self.now) }
+        ensures bound { probes.new ≤ probes.old + digits (length self.now) }
     {
         let next_to = self.neighbours(start, probes);
         starting_at(next_to.up_to, start)
     }
 
-    /// The next function of a section behind an offset. It stands at `next_place` where the one ahead of that place
+    /// The next function of a section after an offset. It stands at `next_place` where the one ahead of that place
     /// starts at the offset; else it is found by a binary search. Each function that is looked at is counted in
     /// `probes`: at most two more than their number has binary digits.
     pub fn next_function(
@@ -118,7 +118,7 @@ impl<'a> GlobalFunctionTable<'a> {
         probes: &mut Probes,
     ) -> Option<GlobalFunction<'a>>
         ensures answer { option_map global_function result ≡ next_global section_offset self.now }
-        ensures few { probes.new ≤ probes.old + digits (length self.now) + 2 }
+        ensures bound { probes.new ≤ probes.old + digits (length self.now) + 2 }
     {
         let mut next_to = neighbours_at(&self.functions, next_place, probes);
         if starting_at(next_to.up_to, section_offset).is_none() {

@@ -3,11 +3,11 @@
 ghost use Rattle.std.specs.Prelude.{◌≡◌, ◌++◌, map, option_map, IfOk, OnOk};
 ghost use Rattle.std.specs.List.{filter_map};
 ghost use Rattle.pdb_functions.specs.GlobalFunctions.{global_function, public_function, placeholder};
-ghost use Rattle.pdb_functions.specs.Sections.{section_ends};
+ghost use Rattle.pdb_functions.specs.CodeSections.{section_ends};
 ghost use Rattle.pdb_functions.specs.Starts.{first_of_each_start};
 
+use crate::code_sections::{executable_section_ends, is_executable_section};
 use crate::global_function_table::GlobalFunctionTable;
-use crate::sections::{executable_section_ends, is_executable_section};
 use pdb_records::{
     ImageSectionHeader, PdbInternalSectionOffset, RawString, Symbol, SymbolData, is_public_kind,
 };

@@ -4,27 +4,27 @@
 //! the tables that are made of them hold what a plain scan of the records would find.
 #![tactic(auto)]
 
+mod code_sections;
 mod contribution_table;
-mod contributions;
-mod found_functions;
+mod function_matches;
 mod global_function_table;
 mod global_functions;
 pub mod lookup_laws;
+mod merged_contributions;
 mod module_info;
-mod module_infos;
+mod module_info_cache;
 mod named_info;
 mod procedure_table;
 mod procedures;
 mod section_table;
-mod sections;
 mod span_table;
 
 pub use contribution_table::ContributionTable;
-pub use contributions::{ModuleSectionContribution, compute_section_contributions};
-pub use found_functions::{FoundFunction, global_function_in};
+pub use function_matches::{FunctionMatch, global_function_in};
 pub use global_function_table::GlobalFunctionTable;
 pub use global_functions::{GlobalFunction, compute_global_functions};
+pub use merged_contributions::{ModuleSectionContribution, compute_section_contributions};
 pub use module_info::BasicModuleInfo;
-pub use module_infos::BasicModuleInfoCache;
+pub use module_info_cache::BasicModuleInfoCache;
 pub use procedures::ProcedureSymbolFunction;
 pub use section_table::SectionTable;

@@ -15,12 +15,12 @@ ghost use Rattle.pdb_records.specs.declared.symbols.Symbol.{Symbol};
 ghost use Rattle.pdb_records.specs.OrderLaws.{OrderAgrees};
 ghost use Rattle.pdb_errors.specs.declared.error.Error.{Error};
 ghost use Rattle.pdb_errors.specs.declared.error.Error.TheVariants.{PdbError, SectionContributionEndTooLarge};
-ghost use Rattle.pdb_functions.specs.declared.contributions.ModuleSectionContribution.{ModuleSectionContribution};
-ghost use Rattle.pdb_functions.specs.Contributions.{claims, merged_contributions};
+ghost use Rattle.pdb_functions.specs.declared.merged_contributions.ModuleSectionContribution.{ModuleSectionContribution};
+ghost use Rattle.pdb_functions.specs.MergedContributions.{claims, merged_contributions};
 ghost use Rattle.pdb_functions.specs.GlobalFunctions.{listed_functions, global_functions};
 ghost use Rattle.pdb_functions.specs.Procedures.{ModuleProcedure, procedure_at, procedures_from};
 ghost use Rattle.pdb_functions.specs.Procedures.{symbol_procedures, info_procedures};
-ghost use Rattle.pdb_functions.specs.FoundFunctions.{global_at};
+ghost use Rattle.pdb_functions.specs.FunctionMatches.{global_at};
 ghost use Rattle.pdb_tables.specs.Pick.{pick, IsPicked};
 ghost use Rattle.pdb_functions.specs.Spans.{procedure_covers};
 ghost use Rattle.pdb_functions.specs.ReadingOrder.{reading_intervals, merged_in_reading_order, AreOnly};
@@ -30,7 +30,7 @@ ghost use Rattle.pdb_functions.specs.LookupLaws.{IsApartFrom, NeighboursDiffer, 
 ghost use Rattle.pdb_functions.specs.LookupLaws.{procedure_starting_at, last_procedure};
 ghost use Rattle.pdb_functions.specs.Starts.{StartsAscend};
 
-use crate::contributions::ModuleSectionContribution;
+use crate::merged_contributions::ModuleSectionContribution;
 
 /// Two merged contributions are equal exactly where neither stands before the other.
 pub fn order_of_contributions_agrees_with_equality()
@@ -70,7 +70,7 @@ pub fn merged_contributions_hold_no_other_module()
 {}
 
 /// Which refusal comes first: that of the first end past 32 bits in reading order, then that of the
-/// fault behind the contributions. Where neither is there, contributions are refused only for a byte
+/// fault after the contributions. Where neither is there, contributions are refused only for a byte
 /// that two modules claim.
 pub fn contributions_are_refused_for()
     ensures end { (sections : List ImageSectionHeader) (debug : DebugInformation) (claim : ModuleSectionContribution)
@@ -116,7 +116,7 @@ pub fn first_global_function_of_each_start_is_kept()
 /// Procedures of a module stand by section and start, each start once. At each start the first that
 /// symbols show, in reading order, stays. A symbol looks at the last procedure that those before it
 /// show, whose name and type code apart from its body takes, whether or not that one stays. A fault
-/// behind the symbols leaves none.
+/// after the symbols leaves none.
 pub fn first_procedure_of_each_start_is_kept()
     ensures ascend { (symbols : List Symbol) → StartsAscend (λ p. p.offset) (symbol_procedures symbols) }
     ensures first { (symbols : List Symbol) (section_offset : PdbInternalSectionOffset)

@@ -41,7 +41,7 @@ impl<'a> BasicModuleInfo<'a> {
     ///
     /// # Errors
     ///
-    /// [`Error::PdbError`] where the list of the module's symbols has a fault: what comes behind it may
+    /// [`Error::PdbError`] where the list of the module's symbols has a fault: what comes after it may
     /// change which procedures there are.
     pub fn try_from_module_info(alloc: Global, module_info: &'a ModuleInfo) -> Result<Self>
         ensures answer { IfOk result (λ b. b ≡ module_info.now) }
@@ -78,7 +78,7 @@ impl<'a> BasicModuleInfo<'a> {
     ) -> Option<ProcedureSymbolFunction<'a>>
         ensures answer { option_map module_procedure result
             ≡ pick (procedure_covers section_offset) (λ p. p.offset.offset) (info_procedures self.now) }
-        ensures few { probes.new ≤ probes.old + digits (length (info_procedures self.now)) + 5 }
+        ensures bound { probes.new ≤ probes.old + digits (length (info_procedures self.now)) + 5 }
         ensures few_without_position { position.old ≡ None
             → probes.new ≤ probes.old + digits (length (info_procedures self.now)) + 1 }
     {
@@ -97,7 +97,7 @@ impl<'a> BasicModuleInfo<'a> {
     ) -> Option<ProcedureSymbolFunction<'a>>
         ensures answer { option_map module_procedure result
             ≡ pick (procedure_covers section_offset) (λ p. p.offset.offset) (info_procedures self.now) }
-        ensures few { probes.new ≤ probes.old + digits (length (info_procedures self.now)) + 1 }
+        ensures bound { probes.new ≤ probes.old + digits (length (info_procedures self.now)) + 1 }
     {
         self.procedure_near(section_offset, &mut None, probes)
     }

@@ -38,7 +38,7 @@ fn covers(procedure: ProcedureSymbolFunction<'_>, section_offset: PdbInternalSec
         && u64::from(section_offset.offset) < end
 }
 
-// Whether a procedure starts behind a section offset, where there is one.
+// Whether a procedure starts after a section offset, where there is one.
 fn starts_behind(
     procedure: Option<&ProcedureSymbolFunction<'_>>,
     section_offset: PdbInternalSectionOffset,
@@ -117,7 +117,7 @@ impl<'a> ProcedureTable<'a> {
     ) -> Option<ProcedureSymbolFunction<'a>>
         ensures answer { option_map module_procedure result
             ≡ pick (procedure_covers section_offset) (λ p. p.offset.offset) self.now }
-        ensures few { probes.new ≤ probes.old + digits (length self.now) + 1 }
+        ensures bound { probes.new ≤ probes.old + digits (length self.now) + 1 }
     {
         find(
             &self.procedures,
@@ -138,7 +138,7 @@ impl<'a> ProcedureTable<'a> {
     ) -> Option<ProcedureSymbolFunction<'a>>
         ensures answer { IfSome result (λ p. Some (module_procedure p)
             ≡ pick (procedure_covers section_offset) (λ p. p.offset.offset) self.now) }
-        ensures few { probes.new ≤ probes.old + 2 }
+        ensures bound { probes.new ≤ probes.old + 2 }
     {
         if position >= self.procedures.len() {
             return None;
@@ -165,7 +165,7 @@ impl<'a> ProcedureTable<'a> {
     ) -> Option<ProcedureSymbolFunction<'a>>
         ensures answer { option_map module_procedure result
             ≡ pick (procedure_covers section_offset) (λ p. p.offset.offset) self.now }
-        ensures few { probes.new ≤ probes.old + digits (length self.now) + 5 }
+        ensures bound { probes.new ≤ probes.old + digits (length self.now) + 5 }
         ensures few_without_position { position.old ≡ None → probes.new ≤ probes.old + digits (length self.now) + 1 }
     {
         if let Some(last) = *position {

@@ -85,7 +85,7 @@ impl<'a> SectionTable<'a> {
     {
         let mut last_first = segments_of(alloc, &address_map.sections)?;
         last_first.reverse();
-        let segments = Segments::of_painted(alloc, &last_first)?;
+        let segments = Segments::from_overlapping(alloc, &last_first)?;
         Ok(SectionTable {
             address_map,
             segments,
@@ -103,7 +103,7 @@ impl<'a> SectionTable<'a> {
         probes: &mut Probes,
     ) -> Option<PdbInternalSectionOffset>
         ensures answer { result ≡ internal_offset self.now address }
-        ensures few { probes.new ≤ probes.old + digits (length self.now) + 1 }
+        ensures bound { probes.new ≤ probes.old + digits (length self.now) + 1 }
     {
         let section = self.segments.find(u64::from(address.0), probes)?;
         section_offset_in(address.0, section)

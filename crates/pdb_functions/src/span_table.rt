@@ -49,7 +49,7 @@ pub(crate) fn segments_of<T: Span>(
     ensures answer { IfOk result (λ table. (section_offset : PdbInternalSectionOffset) → section_offset.offset < 2 ^ 32
         → option_and_then (slice_get spans.now) (value_at table (key section_offset))
         ≡ last_over (T.is_over section_offset) None spans.now) }
-    ensures few { IfOk result (λ table. length table ≤ 2 * length spans.now) }
+    ensures bound { IfOk result (λ table. length table ≤ 2 * length spans.now) }
 {
     let mut segments = Vec::new(alloc);
     for (position, span) in spans.iter().enumerate() {
@@ -60,7 +60,7 @@ pub(crate) fn segments_of<T: Span>(
             value: position,
         })?;
     }
-    let table = Segments::of_painted(alloc, &segments)?;
+    let table = Segments::from_overlapping(alloc, &segments)?;
     Ok(table)
 }
 
@@ -73,7 +73,7 @@ pub(crate) fn find<T: Copy>(
     probes: &mut Probes,
 ) -> Option<T>
     ensures answer { result ≡ option_and_then (slice_get spans.now) (value_at table.now (key section_offset)) }
-    ensures few { probes.new ≤ probes.old + digits (length table.now) }
+    ensures bound { probes.new ≤ probes.old + digits (length table.now) }
 {
     *position = table.find(key(section_offset), probes);
     spans.get((*position)?).copied()

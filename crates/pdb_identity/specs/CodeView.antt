@@ -9,7 +9,7 @@ use Rattle.pe_image.specs.NumbersAt.{bytes_at, number_at}
 abbrev pub debug_id : List ℕ → ℕ → DebugId
 debug_id guid age = record { guid = swap_fields guid; age = age }
 
--- the debug id of a record: it begins with the letters RSDS, as a number, behind which the GUID stands and then the age
+-- the debug id of a record: it begins with the letters RSDS, as a number, after which the GUID stands and then the age
 abbrev pub code_view_id : List ℕ → Option DebugId
 code_view_id bytes =
     option_and_then (λ letters. if letters == 1396986706 then
@@ -26,7 +26,7 @@ pub record CodeViewRecord : Type 0 where
   pub debug_id : DebugId
   pub path : List ℕ
 
--- the record of a debug id in these bytes: the path stands behind the age
+-- the record of a debug id in these bytes: the path stands after the age
 abbrev pub record_with : List ℕ → DebugId → CodeViewRecord
 record_with bytes id = record { debug_id = id; path = before_zero (drop 24 bytes) }
 

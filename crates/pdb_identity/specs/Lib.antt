@@ -1,3 +1,4 @@
-pub mod InfoFront
+pub mod InfoHeader
 pub mod CodeView
+pub mod DebugIds
 pub mod Programs

@@ -6,7 +6,7 @@ use Rattle.pe_image.specs.Image.{Program}
 use Rattle.pe_image.specs.declared.debug_directory.DebugEntry.{DebugEntry}
 use Rattle.pdb_identity.specs.CodeView.{CodeViewRecord, code_view, code_view_seen}
 use Rattle.pdb_identity.specs.declared.code_id.CodeId.{CodeId}
-use Rattle.pdb_identity.specs.declared.program.ProgramFile.{ProgramFile}
+use Rattle.pdb_identity.specs.declared.program_file.ProgramFile.{ProgramFile}
 
 -- what a program says of itself
 pub record ProgramIdentity : Type 0 where

@@ -3,7 +3,7 @@
 use std::fmt;
 
 /// What tells the builds of a program apart by its own file. The text is `6B32B9415000`: eight digits of the time stamp,
-/// and behind them those of the size.
+/// and after them those of the size.
 #[derive(Debug, Clone, Copy, PartialEq, Eq)]
 pub struct CodeId {
     /// When the program was linked, in seconds since 1970, or a hash where the linker was told to make the same file

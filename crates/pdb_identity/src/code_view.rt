@@ -37,7 +37,7 @@ pub(crate) fn read_code_view(bytes: &[u8]) -> Option<CodeView<'_>>
     })
 }
 
-// The debug id of a record in these bytes. The age stands behind the GUID.
+// The debug id of a record in these bytes. The age stands after the GUID.
 fn code_view_id(bytes: &[u8]) -> Option<DebugId>
     ensures answer { result ≡ code_view_id bytes.now }
 {

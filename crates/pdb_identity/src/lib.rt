@@ -4,13 +4,13 @@
 mod code_id;
 mod code_view;
 mod debug_id;
-mod info_front;
+mod info_header;
 mod machine;
-mod program;
+mod program_file;
 
 pub use code_id::CodeId;
 pub use code_view::CodeView;
 pub use debug_id::{CompactDebugId, DebugId};
-pub use info_front::InfoFront;
+pub use info_header::InfoHeader;
 pub use machine::Machine;
-pub use program::{ProgramFile, read_program};
+pub use program_file::{ProgramFile, read_program};

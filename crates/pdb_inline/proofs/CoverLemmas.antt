@@ -13,7 +13,7 @@ use Rattle.pdb_records.specs.declared.symbols.InlineRow.{InlineRow}
 use Rattle.pdb_records.specs.declared.symbols.InlineSiteSymbol.{InlineSiteSymbol}
 use Rattle.pdb_tables.specs.InOrder.{put, in_order}
 use Rattle.pdb_inline.specs.Sites.{Site, SiteAtDepth, at_depth, depth}
-use Rattle.pdb_inline.specs.InlineRows.{row_range, row_ranges, counted_rows}
+use Rattle.pdb_inline.specs.SiteRows.{row_range, row_ranges, counted_rows}
 use Rattle.pdb_inline.specs.InlineRanges.{own_range, own_ranges, added_range, added_ranges, range_before, inline_ranges}
 use Rattle.pdb_tables.specs.Runs.{missing_runs}
 use Rattle.pdb_inline.specs.CoveredRuns.{deeper_ranges, added_by_depth}

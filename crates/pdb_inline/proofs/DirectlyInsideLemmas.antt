@@ -14,7 +14,7 @@ use Rattle.pdb_tables.proofs.MissingRunLemmas.{has-missing_runs}
 use Rattle.pdb_records.specs.declared.ids.IdIndex.{IdIndex}
 use Rattle.pdb_inline.specs.declared.inline_ranges.InlineRange.{InlineRange}
 use Rattle.pdb_inline.specs.Sites.{Site, depth}
-use Rattle.pdb_inline.specs.InlineRows.{row_ranges, counted_rows}
+use Rattle.pdb_inline.specs.SiteRows.{row_ranges, counted_rows}
 use Rattle.pdb_inline.specs.InlineRanges.{is_inside, inner_ranges, missing, own_ranges, added_ranges, inline_ranges}
 use Rattle.pdb_inline.specs.InlineStacks.{lies_over, has_range_over, depths, stack_from, inline_stack}
 use Rattle.pdb_inline.specs.InlineStacks.{site_ranges, is_over, IsSoleOver, IsDirectlyInside}

@@ -8,7 +8,7 @@ use Rattle.std.proofs.lemmas.Bool.{cases_lt, lt-ltb, le-ltb, ne_eqb, or_parts}
 use Rattle.std.proofs.lemmas.Bool.Decides.{nat_tests}
 use Rattle.pdb_records.specs.declared.ids.IdIndex.{IdIndex}
 use Rattle.pdb_inline.specs.Sites.{Site, depth, at_depth}
-use Rattle.pdb_inline.specs.InlineRows.{row_ranges}
+use Rattle.pdb_inline.specs.SiteRows.{row_ranges}
 use Rattle.pdb_inline.specs.InlineRanges.{inner_ranges, missing, added_ranges}
 use Rattle.pdb_inline.specs.CoveredRuns.{deeper_ranges, added_by_depth}
 use Rattle.pdb_inline.proofs.NestingLemmas.{AllBelow, Falls, AreNested, falls_drop, falls_next, site_falls}

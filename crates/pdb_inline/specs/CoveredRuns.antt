@@ -6,7 +6,7 @@ use Rattle.pdb_records.specs.declared.ids.IdIndex.{IdIndex}
 use Rattle.pdb_tables.specs.RangeSet.{is_within}
 use Rattle.pdb_inline.specs.declared.missing_rows.CoveredRun.{CoveredRun}
 use Rattle.pdb_inline.specs.declared.inline_ranges.InlineRange.{InlineRange}
-use Rattle.pdb_inline.specs.InlineRows.{row_ranges}
+use Rattle.pdb_inline.specs.SiteRows.{row_ranges}
 use Rattle.pdb_tables.specs.InOrder.{in_order}
 use Rattle.pdb_inline.specs.InlineRanges.{own_ranges, added_ranges, range_before}
 use Rattle.pdb_tables.specs.Runs.{missing_runs}

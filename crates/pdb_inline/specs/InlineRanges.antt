@@ -11,7 +11,7 @@ use Rattle.pdb_records.specs.declared.symbols.InlineSiteSymbol.{InlineSiteSymbol
 use Rattle.pdb_errors.specs.declared.error.Error.{Error}
 use Rattle.pdb_inline.specs.declared.inline_ranges.InlineRange.{InlineRange}
 use Rattle.pdb_tables.specs.InOrder.{in_order}
-use Rattle.pdb_inline.specs.InlineRows.{counted_rows, row_end, row_ranges}
+use Rattle.pdb_inline.specs.SiteRows.{counted_rows, row_end, row_ranges}
 use Rattle.pdb_tables.specs.Runs.{missing_runs}
 use Rattle.pdb_inline.specs.Sites.{Site, depth, walk, unless_met}
 

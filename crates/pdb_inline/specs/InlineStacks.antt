@@ -5,7 +5,7 @@ use Rattle.std.specs.List.{list_any}
 use Rattle.pdb_tables.specs.RangeSet.{is_within, has}
 use Rattle.pdb_records.specs.declared.ids.IdIndex.{IdIndex}
 use Rattle.pdb_inline.specs.declared.inline_ranges.InlineRange.{InlineRange}
-use Rattle.pdb_inline.specs.InlineRows.{row_ranges}
+use Rattle.pdb_inline.specs.SiteRows.{row_ranges}
 use Rattle.pdb_inline.specs.InlineRanges.{own_ranges, added_ranges, missing}
 use Rattle.pdb_tables.specs.Pick.{pick}
 use Rattle.pdb_inline.specs.Sites.{Site, depth}

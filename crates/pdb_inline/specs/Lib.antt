@@ -1,5 +1,5 @@
 pub mod Sites
-pub mod InlineRows
+pub mod SiteRows
 pub mod InlineRanges
 pub mod InlineStacks
 pub mod PickedSlots

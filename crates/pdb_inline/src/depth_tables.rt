@@ -74,7 +74,7 @@ fn tables_of(
 {
     let mut tables = Vec::new(alloc);
     for segments in lists {
-        tables.push(Segments::of_painted(alloc, segments)?)?;
+        tables.push(Segments::from_overlapping(alloc, segments)?)?;
     }
     Ok(tables)
 }

@@ -7,7 +7,7 @@ ghost use Rattle.pdb_records.specs.declared.ids.IdIndex.{IdIndex};
 ghost use Rattle.pdb_records.specs.declared.symbols.Symbol.{Symbol};
 ghost use Rattle.pdb_inline.specs.declared.inline_ranges.InlineRange.{InlineRange};
 ghost use Rattle.pdb_tables.specs.RangeSet.{has, IsRunsFrom};
-ghost use Rattle.pdb_inline.specs.InlineRows.{row_ranges};
+ghost use Rattle.pdb_inline.specs.SiteRows.{row_ranges};
 ghost use Rattle.pdb_inline.specs.Sites.{Site, depth, walk};
 ghost use Rattle.pdb_inline.specs.InlineRanges.{is_inside, inline_ranges, inner_ranges, missing};
 ghost use Rattle.pdb_inline.specs.InlineStacks.{lies_over, has_range_over, is_covered, levels};

@@ -7,8 +7,8 @@ ghost use Rattle.pdb_inline.specs.CoveredRuns.{read_by_depth, ranges_by_depth};
 ghost use Rattle.pdb_inline.specs.InlineRanges.{own_range, own_ranges, procedure_inline_ranges};
 ghost use Rattle.pdb_inline.specs.Sites.{site_view};
 
-use crate::inline_rows::{counted_rows, row_end};
 use crate::missing_rows::ranges_added_to_sites;
+use crate::site_rows::{counted_rows, row_end};
 use crate::sites::{Site, procedure_sites};
 use pdb_errors::Result;
 use pdb_records::{FileIndex, IdIndex, InlineRow, ModuleInfo, SymbolIndex};

@@ -8,12 +8,12 @@
 mod depth_tables;
 pub mod inline_range_laws;
 mod inline_ranges;
-mod inline_rows;
 mod inline_stacks;
 mod listed_ranges;
 mod missing_rows;
 mod procedure_stacks;
 mod range_bounds;
+mod site_rows;
 mod sites;
 mod stack_table;
 

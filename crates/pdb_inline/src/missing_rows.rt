@@ -5,12 +5,12 @@ ghost use Rattle.std.specs.Prelude.{nat_lt, map, reverse, option_map, slice_get,
 ghost use Rattle.pdb_tables.specs.RangeSet.{has};
 ghost use Rattle.pdb_inline.specs.CoveredRuns.{is_on_stack, added_by_depth};
 ghost use Rattle.pdb_inline.specs.InlineRanges.{added_range, added_ranges};
-ghost use Rattle.pdb_inline.specs.InlineRows.{row_ranges};
+ghost use Rattle.pdb_inline.specs.SiteRows.{row_ranges};
 ghost use Rattle.pdb_tables.specs.Runs.{missing_runs};
 ghost use Rattle.pdb_inline.specs.Sites.{site_view};
 
 use crate::inline_ranges::InlineRange;
-use crate::inline_rows::{counted_rows, ranges_of_rows};
+use crate::site_rows::{counted_rows, ranges_of_rows};
 use crate::sites::Site;
 use pdb_records::{FileIndex, IdIndex, InlineRow};
 use pdb_tables::RangeSet;

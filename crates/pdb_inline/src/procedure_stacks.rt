@@ -110,7 +110,7 @@ impl ProcedureStacks {
         ensures answer { IfSome result (λ positions.
             map (slice_get self.now) positions.now ≡ map Some (inline_stack self.now offset)) }
         ensures found { is_some result ≡ are_stacks_small self.now }
-        ensures few { probes.new ≤ probes.old + digits (length self.now) + 2 }
+        ensures bound { probes.new ≤ probes.old + digits (length self.now) + 2 }
     {
         match &self.table {
             Some(table) => Some(table.find(offset, probes)),
@@ -131,7 +131,7 @@ impl ProcedureStacks {
         probes: &mut Probes,
     ) -> Result<Vec<InlineRange>, AllocError>
         ensures answer { IfOk result (λ v. v.items ≡ inline_stack self.now offset) }
-        ensures few { probes.new ≤ probes.old + digits (length self.now) + 2 }
+        ensures bound { probes.new ≤ probes.old + digits (length self.now) + 2 }
     {
         match self.search(offset, probes) {
             Some(positions) => ranges_at(alloc, &self.ranges, positions),

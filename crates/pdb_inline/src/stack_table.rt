@@ -48,7 +48,7 @@ impl StackTable {
     pub fn new(alloc: Global, ranges: &[InlineRange]) -> Result<Self, AllocError>
         ensures stacks { IfOk result (λ table. HasStacks ranges.now table) }
         ensures positions { IfOk result (λ table. (x : ℕ) → stack_over table x ≡ inline_positions ranges.now x) }
-        ensures few { IfOk result (λ table. length table ≤ 4 * length ranges.now) }
+        ensures bound { IfOk result (λ table. length table ≤ 4 * length ranges.now) }
     {
         let tables = depth_tables(alloc, ranges)?;
         let bounds = sorted_bounds(alloc, ranges)?;
@@ -68,7 +68,7 @@ impl StackTable {
     pub fn find(&self, offset: u64, probes: &mut Probes) -> &[usize]
         ensures answer { result.now ≡ stack_over self.now offset }
         ensures no_fewer { probes.old ≤ probes.new }
-        ensures few { probes.new ≤ probes.old + digits (length self.now) }
+        ensures bound { probes.new ≤ probes.old + digits (length self.now) }
     {
         match self.segments.find(offset, probes) {
             Some((from, to)) => &self.positions[from..to],
@@ -80,7 +80,7 @@ impl StackTable {
     fn paint(&mut self, tables: &[Segments<usize>], lo: u64, hi: u64) -> Result<(), AllocError>
         ensures state { OnOk result ((x : ℕ) → stack_over self.new x
             ≡ (if is_within lo hi x then positions_in tables.now lo else stack_over self.old x)) }
-        ensures few { length self.new ≤ length self.old + 2 }
+        ensures bound { length self.new ≤ length self.old + 2 }
     {
         let from = self.positions.len();
         push_positions(&mut self.positions, tables, lo)?;
@@ -96,7 +96,7 @@ fn stacks_between(
 ) -> Result<StackTable, AllocError>
     requires { ChangesAt (positions_in tables.now) 0 bounds.now }
     ensures answer { IfOk result (λ table. (x : ℕ) → stack_over table x ≡ positions_in tables.now x) }
-    ensures few { IfOk result (λ table. length table ≤ 2 * length bounds.now) }
+    ensures bound { IfOk result (λ table. length table ≤ 2 * length bounds.now) }
 {
     let mut table = StackTable {
         segments: Segments::new(alloc),

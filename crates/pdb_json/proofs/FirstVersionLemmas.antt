@@ -3,13 +3,13 @@ use Rattle.std.proofs.Common.{◌≡◌, ◌+◌, ℕ, List, [], length, Option,
 use Rattle.std.specs.Prelude.{◌&&◌, Bool, true, false, is_some, Result, Ok, Err}
 use Rattle.serde_json.specs.Data.{Data, Items, no_items, item}
 use Rattle.serde_json.specs.Find.{as_array}
-use Rattle.pdb_json_values.specs.Faults.{Fault, ◌>>=◌}
+use Rattle.pdb_json_values.specs.RecordFault.{Fault, ◌>>=◌}
 use Rattle.pdb_json_values.specs.Values.{text_of, object_of}
 use Rattle.pdb_json_records.specs.NameValues.{name_of}
 use Rattle.pdb_json_records.specs.Members.{member_of, all_from, list_of, optional_of, stream_of}
 use Rattle.pdb_json_records.specs.Modules.{info_of}
 use Rattle.pdb_json.specs.ModuleFiles.{stands_for_file, module_file_names_in_version}
-use Rattle.pdb_json.specs.ModuleInfos.{own_info_of, info_with, infos_from, infos_of}
+use Rattle.pdb_json.specs.ModuleInfoValues.{own_info_of, info_with, infos_from, infos_of}
 use Rattle.pdb_json.specs.RecordsFile.{records_in_version, counted, records_of, in_json}
 use Rattle.pdb_json.specs.FirstVersion.{first_records_of_object, first_records_in, version_in}
 use Rattle.pdb_json.specs.Versions.{file_version_of}

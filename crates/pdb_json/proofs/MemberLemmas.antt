@@ -4,7 +4,7 @@ use Rattle.std.specs.Prelude.{None, Result, Ok, Err, unwrap_or, decimal}
 use Rattle.serde_json.specs.Data.{Data, null, Items, no_items, item, Members, object, put}
 use Rattle.serde_json.specs.Find.{get}
 use Rattle.serde_json.proofs.Views.{get_member-put_other}
-use Rattle.pdb_json_values.specs.Faults.{Fault, inside, read_inside, ◌>>=◌}
+use Rattle.pdb_json_values.specs.RecordFault.{Fault, inside, read_inside, ◌>>=◌}
 use Rattle.pdb_json_records.specs.Members.{member_of, optional_of, all_from}
 use Rattle.pdb_json.specs.MemberLaws.{IsInMember, IsInElement}
 
@@ -32,7 +32,7 @@ in_member {X} read name d fault is = by_read (read (unwrap_or (get name d) null)
   by_read (Err own) here refused = let same : inside name own ≡ fault = cc in
       record { own = own; refused = here; path = sym same }
 
--- a fault of an element behind the first is that of an element
+-- a fault of an element after the first is that of an element
 in_later_element : {X : Type 0} (read : Data → Result X Fault) (first : ℕ) (d : Data) (ds : Items) (fault : Fault)
     → IsInElement read (first + 1) ds fault → IsInElement read first (item d ds) fault
 in_later_element read first d ds fault is = record {
@@ -44,7 +44,7 @@ in_later_element read first d ds fault is = record {
   path = is.path ∙ ap (λ n. inside (decimal n) is.own) (omega arith);
 }
 
--- a fault of the rest is that of what stands behind an element
+-- a fault of the rest is that of what stands after an element
 of_rest : {X : Type 0} (x : X) (rest : Result (List X) Fault) (fault : Fault)
     → (rest >>= λ xs. Ok (x ∷ xs)) ≡ Err fault → rest ≡ Err fault
 of_rest x (Ok xs) fault none = absurd cc

@@ -1,8 +1,8 @@
 -- What the value of a text shows is what the text shows.
 use Rattle.std.proofs.Common.{◌≡◌, ℕ, List, Ok}
 use Rattle.serde_json.specs.Data.{Data}
-use Rattle.pdb_json_values.specs.declared.faults.RecordFault.{RecordFault}
-use Rattle.pdb_json_values.specs.Faults.{IsFaultOf}
+use Rattle.pdb_json_values.specs.declared.record_fault.RecordFault.{RecordFault}
+use Rattle.pdb_json_values.specs.RecordFault.{IsFaultOf}
 use Rattle.pdb_json_values.proofs.FaultLemmas.{fault_ends}
 use Rattle.pdb_json.specs.RecordsFile.{value_of, records_of, records_of_files, wanted_files_of, module_files_of}
 

@@ -2,7 +2,7 @@
 use Rattle.std.specs.Prelude.{◌≡◌, ℕ, List, Result, Ok, codes}
 use Rattle.serde_json.specs.Data.{Data}
 use Rattle.pdb_records.specs.Records.{Records}
-use Rattle.pdb_json_values.specs.Faults.{Fault, ◌>>=◌}
+use Rattle.pdb_json_values.specs.RecordFault.{Fault, ◌>>=◌}
 use Rattle.pdb_json_values.specs.Values.{object_of}
 use Rattle.pdb_json_records.specs.Members.{member_of, optional_of, list_of, stream_of}
 use Rattle.pdb_json_records.specs.Modules.{info_of}

@@ -1,11 +1,11 @@
 pub use Rattle.serde_json.specs.Data
 pub use Rattle.serde_json.specs.Read
 pub use Rattle.pdb_records.specs.Records
-pub use Rattle.pdb_json_values.specs.Faults
+pub use Rattle.pdb_json_values.specs.RecordFault
 pub mod Json
 pub mod Versions
 pub mod ModuleFiles
-pub mod ModuleInfos
+pub mod ModuleInfoValues
 pub mod RecordsFile
 pub mod FirstVersion
 pub mod MemberLaws

@@ -2,7 +2,7 @@
 use Rattle.std.specs.Prelude.{◌≡◌, ℕ, ◌+◌, List, Some, Result, Err, unwrap_or, decimal}
 use Rattle.serde_json.specs.Data.{Data, null, Items}
 use Rattle.serde_json.specs.Find.{get, get_item}
-use Rattle.pdb_json_values.specs.Faults.{Fault, inside}
+use Rattle.pdb_json_values.specs.RecordFault.{Fault, inside}
 
 -- a fault is that of the value that an object has under a name, or of null in its place: the path leads through the
 -- member, and then on as from the value itself

@@ -4,7 +4,7 @@ use Rattle.std.specs.Prelude.{decimal, if◌then◌else◌, codes, map, Vec}
 use Rattle.std.specs.declared.alloc.Global.{Global}
 use Rattle.serde_json.specs.Data.{Data, Items, no_items, item}
 use Rattle.pdb_json_values.specs.Versions.{has_module_files}
-use Rattle.pdb_json_values.specs.Faults.{Fault, ◌>>=◌, read_inside}
+use Rattle.pdb_json_values.specs.RecordFault.{Fault, ◌>>=◌, read_inside}
 use Rattle.pdb_json_values.specs.Values.{text_of, array_of}
 use Rattle.pdb_json_records.specs.Members.{has, member_of}
 

@@ -2,14 +2,14 @@
 use Rattle.std.specs.Prelude.{ℕ, ◌==◌, List, length, Option, Some, None, Result, Ok, Err, if◌then◌else◌, codes}
 use Rattle.serde_json.specs.Data.{Data}
 use Rattle.pdb_records.specs.Records.{Records}
-use Rattle.pdb_json_values.specs.Faults.{Fault, not_json, module_files, ◌>>=◌}
+use Rattle.pdb_json_values.specs.RecordFault.{Fault, not_json, module_files, ◌>>=◌}
 use Rattle.pdb_json_values.specs.Values.{object_of}
 use Rattle.pdb_json_records.specs.Members.{member_of}
 use Rattle.pdb_json_records.specs.AllRecords.{shared_records_of}
 use Rattle.pdb_json.specs.Json.{json_of}
 use Rattle.pdb_json.specs.Versions.{file_version_of}
 use Rattle.pdb_json.specs.ModuleFiles.{module_file_names_in_version}
-use Rattle.pdb_json.specs.ModuleInfos.{infos_of}
+use Rattle.pdb_json.specs.ModuleInfoValues.{infos_of}
 
 -- all records of a file of a version and of its module files, or the first fault. What differs between the versions is
 -- what a name may be (`name_of`) and what an element of `module_infos` may be (`stands_for_file`)

@@ -2,7 +2,7 @@
 use Rattle.std.specs.Prelude.{ℕ, ◌==◌, [], Option, Some, None, Result, Ok, Err, unwrap_or, if◌then◌else◌, codes}
 use Rattle.serde_json.specs.Data.{Data}
 use Rattle.serde_json.specs.Find.{as_number, as_u64}
-use Rattle.pdb_json_values.specs.Faults.{Fault, shape, ◌>>=◌}
+use Rattle.pdb_json_values.specs.RecordFault.{Fault, shape, ◌>>=◌}
 use Rattle.pdb_json_values.specs.Values.{wanted}
 use Rattle.pdb_json_records.specs.Members.{member_of, optional_of}
 

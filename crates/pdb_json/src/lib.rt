@@ -8,8 +8,8 @@
 #![tactic(auto)]
 
 mod json;
-mod module_infos;
-mod named_files;
+mod module_file_names;
+mod module_info_values;
 mod records_file;
 pub mod records_file_laws;
 mod versions;

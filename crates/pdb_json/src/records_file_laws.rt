@@ -5,7 +5,7 @@
 ghost use Rattle.std.specs.Prelude.{◌≡◌, ◌≢◌, ℕ, List, [], Some, None, Result, Ok, Err};
 ghost use Rattle.serde_json.specs.Data.{Data, null, Items, Members, object, put};
 ghost use Rattle.serde_json.specs.Find.{get};
-ghost use Rattle.pdb_json_values.specs.Faults.{Fault};
+ghost use Rattle.pdb_json_values.specs.RecordFault.{Fault};
 ghost use Rattle.pdb_json_values.specs.Values.{text_of};
 ghost use Rattle.pdb_json_records.specs.Members.{member_of, optional_of, all_from};
 ghost use Rattle.pdb_json_records.specs.NameValues.{name_of};

@@ -1,7 +1,7 @@
 //! Reads the version of the format that a records file names.
 
 ghost use Rattle.serde_json.specs.View.{view};
-ghost use Rattle.pdb_json_values.specs.Faults.{Agrees};
+ghost use Rattle.pdb_json_values.specs.RecordFault.{Agrees};
 ghost use Rattle.pdb_json.specs.Versions.{version_of, file_version_of};
 
 use pdb_json_records::{FromJson, member};

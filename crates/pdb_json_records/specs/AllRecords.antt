@@ -4,7 +4,7 @@ use Rattle.serde_json.specs.Data.{Data}
 use Rattle.pdb_records.specs.Records.{Records}
 use Rattle.pdb_records.specs.declared.error.StreamError.{StreamError}
 use Rattle.pdb_records.specs.declared.addresses.ImageSectionHeader.{ImageSectionHeader}
-use Rattle.pdb_json_values.specs.Faults.{Fault, shape, ◌>>=◌}
+use Rattle.pdb_json_values.specs.RecordFault.{Fault, shape, ◌>>=◌}
 use Rattle.pdb_json_records.specs.Members.{has, member_of, optional_of, list_of, stream_of}
 use Rattle.pdb_json_records.specs.Sections.{section_of, range_of}
 use Rattle.pdb_json_records.specs.Symbols.{symbol_table_of, type_index_of, id_index_of}

@@ -6,9 +6,9 @@ use Rattle.pdb_records.specs.declared.debug_information.MachineType.TheVariants 
 use Rattle.pdb_records.specs.declared.debug_information.DebugInformation.{DebugInformation}
 use Rattle.pdb_records.specs.declared.debug_information.Module.{Module}
 use Rattle.pdb_records.specs.declared.debug_information.SectionContribution.{SectionContribution}
-use Rattle.pdb_json_values.specs.Faults.{Fault, ◌>>=◌}
+use Rattle.pdb_json_values.specs.RecordFault.{Fault, ◌>>=◌}
 use Rattle.pdb_json_values.specs.Values.{object_of, text_of}
-use Rattle.pdb_json_values.specs.Numbers.{u32_of}
+use Rattle.pdb_json_values.specs.JsonNumbers.{u32_of}
 use Rattle.pdb_json_records.specs.NameValues.{name_of, variant_named}
 use Rattle.pdb_json_records.specs.Members.{member_of, reading_of, stream_of}
 use Rattle.pdb_json_records.specs.Sections.{section_offset_of}

@@ -7,7 +7,7 @@ use Rattle.pdb_records.specs.declared.ids.IdData.TheVariants as held
 use Rattle.pdb_records.specs.declared.ids.MemberFunctionId.{MemberFunctionId}
 use Rattle.pdb_records.specs.declared.ids.FunctionId.{FunctionId}
 use Rattle.pdb_records.specs.declared.ids.StringId.{StringId}
-use Rattle.pdb_json_values.specs.Faults.{Fault, ◌>>=◌}
+use Rattle.pdb_json_values.specs.RecordFault.{Fault, ◌>>=◌}
 use Rattle.pdb_json_values.specs.Values.{object_of, text_of}
 use Rattle.pdb_json_records.specs.NameValues.{name_of, unknown_kind, is_name}
 use Rattle.pdb_json_records.specs.Members.{member_of, optional_of, list_of}

@@ -5,9 +5,9 @@ use Rattle.pdb_records.specs.declared.error.Error.{Error}
 use Rattle.pdb_records.specs.declared.error.Error.TheVariants.{Stream, UnimplementedTypeKind}
 use Rattle.pdb_records.specs.declared.types.Item.{Item}
 use Rattle.pdb_records.specs.declared.types.ItemInformation.{ItemInformation}
-use Rattle.pdb_json_values.specs.Faults.{Fault, shape, ◌>>=◌}
+use Rattle.pdb_json_values.specs.RecordFault.{Fault, shape, ◌>>=◌}
 use Rattle.pdb_json_values.specs.Values.{object_of}
-use Rattle.pdb_json_values.specs.Numbers.{u16_of}
+use Rattle.pdb_json_values.specs.JsonNumbers.{u16_of}
 use Rattle.pdb_json_records.specs.Members.{has, member_of, reading_of, stream_error_of}
 
 -- a stream that failed

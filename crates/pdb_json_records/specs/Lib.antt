@@ -4,7 +4,7 @@ pub use Rattle.pdb_records.specs.Readings
 pub use Rattle.pdb_records.specs.LinePrograms
 pub use Rattle.pdb_records.specs.Arrays
 pub use Rattle.pdb_records.specs.Imports
-pub use Rattle.pdb_json_values.specs.Faults
+pub use Rattle.pdb_json_values.specs.RecordFault
 pub mod NameValues
 pub mod Members
 pub mod Sections

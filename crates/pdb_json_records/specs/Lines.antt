@@ -5,9 +5,9 @@ use Rattle.pdb_records.specs.LinePrograms.{Lines}
 use Rattle.pdb_records.specs.declared.lines.LineInfo.{LineInfo}
 use Rattle.pdb_records.specs.declared.lines.SymbolLines.{SymbolLines}
 use Rattle.pdb_records.specs.declared.lines.FileInfo.{FileInfo}
-use Rattle.pdb_json_values.specs.Faults.{Fault, ◌>>=◌}
+use Rattle.pdb_json_values.specs.RecordFault.{Fault, ◌>>=◌}
 use Rattle.pdb_json_values.specs.Values.{object_of}
-use Rattle.pdb_json_values.specs.Numbers.{u32_of}
+use Rattle.pdb_json_values.specs.JsonNumbers.{u32_of}
 use Rattle.pdb_json_records.specs.Members.{member_of, list_of, reading_of}
 use Rattle.pdb_json_records.specs.Sections.{section_offset_of}
 use Rattle.pdb_json_records.specs.Symbols.{file_index_of}

@@ -5,9 +5,9 @@ use Rattle.serde_json.specs.Data.{Data, null, Items, no_items, item}
 use Rattle.serde_json.specs.Find.{get, as_null, as_object}
 use Rattle.pdb_records.specs.Readings.{Read}
 use Rattle.pdb_records.specs.declared.error.StreamError.{StreamError}
-use Rattle.pdb_json_values.specs.Faults.{Fault, ◌>>=◌, read_inside}
+use Rattle.pdb_json_values.specs.RecordFault.{Fault, ◌>>=◌, read_inside}
 use Rattle.pdb_json_values.specs.Values.{array_of}
-use Rattle.pdb_json_values.specs.Numbers.{u32_of}
+use Rattle.pdb_json_values.specs.JsonNumbers.{u32_of}
 
 -- whether an object has a member of this name, whatever its value
 abbrev pub has : List ℕ → Data → Bool
@@ -56,7 +56,7 @@ module _ {X : Type 0} where
     items ← list_of read d
     Ok (record { items = items; fault = None })
 
-  -- a reading: an array, or an object with the array and the fault that stands behind it
+  -- a reading: an array, or an object with the array and the fault that stands after it
   unfoldable pub reading_of : (Data → Result X Fault) → Data → Result (Read X) Fault
   reading_of read d = if is_some (as_object d) then faulty_of read d else whole_list_of read d
 

@@ -4,9 +4,9 @@ use Rattle.serde_json.specs.Data.{Data}
 use Rattle.pdb_records.specs.Imports.{Imported}
 use Rattle.pdb_records.specs.declared.modules.Inlinee.{Inlinee}
 use Rattle.pdb_records.specs.declared.modules.ModuleInfo.{ModuleInfo}
-use Rattle.pdb_json_values.specs.Faults.{Fault, ◌>>=◌}
+use Rattle.pdb_json_values.specs.RecordFault.{Fault, ◌>>=◌}
 use Rattle.pdb_json_values.specs.Values.{object_of}
-use Rattle.pdb_json_values.specs.Numbers.{u32_of}
+use Rattle.pdb_json_values.specs.JsonNumbers.{u32_of}
 use Rattle.pdb_json_records.specs.Members.{member_of, list_of, reading_of, stream_of}
 use Rattle.pdb_json_records.specs.Symbols.{symbol_of, id_index_of}
 use Rattle.pdb_json_records.specs.Lines.{line_program_of}

@@ -5,9 +5,9 @@ use Rattle.std.specs.Cmp.Lexicographic.{pointwise}
 use Rattle.serde_json.specs.Data.{Data}
 use Rattle.serde_json.specs.Find.{as_array}
 use Rattle.pdb_json_values.specs.Versions.{has_names_in_bytes}
-use Rattle.pdb_json_values.specs.Faults.{Fault, shape, ◌>>=◌}
+use Rattle.pdb_json_values.specs.RecordFault.{Fault, shape, ◌>>=◌}
 use Rattle.pdb_json_values.specs.Values.{text_of}
-use Rattle.pdb_json_values.specs.Numbers.{u8_of}
+use Rattle.pdb_json_values.specs.JsonNumbers.{u8_of}
 use Rattle.pdb_json_records.specs.Members.{list_of}
 
 -- a name: a text, or in a version that has names in bytes an array of these

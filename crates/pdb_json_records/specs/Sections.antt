@@ -4,9 +4,9 @@ use Rattle.serde_json.specs.Data.{Data}
 use Rattle.pdb_records.specs.declared.addresses.ImageSectionHeader.{ImageSectionHeader}
 use Rattle.pdb_records.specs.declared.addresses.AddressRange.{AddressRange}
 use Rattle.pdb_records.specs.declared.addresses.PdbInternalSectionOffset.{PdbInternalSectionOffset}
-use Rattle.pdb_json_values.specs.Faults.{Fault, ◌>>=◌}
+use Rattle.pdb_json_values.specs.RecordFault.{Fault, ◌>>=◌}
 use Rattle.pdb_json_values.specs.Values.{object_of, boolean_of}
-use Rattle.pdb_json_values.specs.Numbers.{u16_of, u32_of}
+use Rattle.pdb_json_values.specs.JsonNumbers.{u16_of, u32_of}
 use Rattle.pdb_json_records.specs.Members.{member_of}
 
 -- a section: where it starts, its size, and whether its bytes are code

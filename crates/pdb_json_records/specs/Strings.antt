@@ -2,9 +2,9 @@
 use Rattle.std.specs.Prelude.{ℕ, List, Result, Ok, codes}
 use Rattle.serde_json.specs.Data.{Data}
 use Rattle.pdb_records.specs.declared.strings.StringRef.{StringRef}
-use Rattle.pdb_json_values.specs.Faults.{Fault, ◌>>=◌}
+use Rattle.pdb_json_values.specs.RecordFault.{Fault, ◌>>=◌}
 use Rattle.pdb_json_values.specs.Values.{object_of}
-use Rattle.pdb_json_values.specs.Numbers.{u32_of}
+use Rattle.pdb_json_values.specs.JsonNumbers.{u32_of}
 use Rattle.pdb_json_records.specs.NameValues.{name_of}
 use Rattle.pdb_json_records.specs.Members.{member_of}
 

@@ -15,9 +15,9 @@ use Rattle.pdb_records.specs.declared.symbols.SeparatedCodeSymbol.{SeparatedCode
 use Rattle.pdb_records.specs.declared.symbols.ThunkSymbol.{ThunkSymbol}
 use Rattle.pdb_records.specs.declared.symbols.InlineSiteSymbol.{InlineSiteSymbol}
 use Rattle.pdb_records.specs.declared.symbols.InlineRow.{InlineRow}
-use Rattle.pdb_json_values.specs.Faults.{Fault, ◌>>=◌}
+use Rattle.pdb_json_values.specs.RecordFault.{Fault, ◌>>=◌}
 use Rattle.pdb_json_values.specs.Values.{object_of, text_of}
-use Rattle.pdb_json_values.specs.Numbers.{u16_of, u32_of}
+use Rattle.pdb_json_values.specs.JsonNumbers.{u16_of, u32_of}
 use Rattle.pdb_json_records.specs.NameValues.{name_of, unknown_kind, is_name}
 use Rattle.pdb_json_records.specs.Members.{member_of, optional_of, reading_of}
 use Rattle.pdb_json_records.specs.Sections.{section_offset_of}

@@ -22,9 +22,9 @@ use Rattle.pdb_records.specs.declared.types.ClassKind.TheVariants as class
 use Rattle.pdb_records.specs.declared.types.PointerMode.TheVariants as mode
 use Rattle.pdb_records.specs.declared.types.Variant.TheVariants as variant
 use Rattle.pdb_records.specs.declared.types.TypeData.TheVariants as held
-use Rattle.pdb_json_values.specs.Faults.{Fault, ◌>>=◌}
+use Rattle.pdb_json_values.specs.RecordFault.{Fault, ◌>>=◌}
 use Rattle.pdb_json_values.specs.Values.{object_of, boolean_of, text_of}
-use Rattle.pdb_json_values.specs.Numbers.{u8_of, u16_of, u32_of, u64_of, i8_of, i16_of, i32_of, i64_of}
+use Rattle.pdb_json_values.specs.JsonNumbers.{u8_of, u16_of, u32_of, u64_of, i8_of, i16_of, i32_of, i64_of}
 use Rattle.pdb_json_records.specs.NameValues.{name_of, variant_of, unknown_kind, is_name}
 use Rattle.pdb_json_records.specs.Members.{member_of, optional_of, list_of}
 use Rattle.pdb_json_records.specs.Symbols.{type_index_of}

@@ -2,7 +2,7 @@
 
 ghost use Rattle.serde_json.specs.View.{view};
 ghost use Rattle.pdb_records.specs.Sections.{listed};
-ghost use Rattle.pdb_json_values.specs.Faults.{Agrees, AgreesBy};
+ghost use Rattle.pdb_json_values.specs.RecordFault.{Agrees, AgreesBy};
 ghost use Rattle.pdb_json_records.specs.AllRecords.{sections_of, shared_records_of};
 
 use crate::members::{Elements, member};

@@ -1,7 +1,7 @@
 //! Reads ids: functions of classes and of none, and texts.
 
 ghost use Rattle.serde_json.specs.View.{view};
-ghost use Rattle.pdb_json_values.specs.Faults.{Agrees};
+ghost use Rattle.pdb_json_values.specs.RecordFault.{Agrees};
 ghost use Rattle.pdb_json_records.specs.Ids.{member_function_id_of, function_id_of, string_id_of, substrings_of};
 ghost use Rattle.pdb_json_records.specs.Ids.{id_named, id_of};
 

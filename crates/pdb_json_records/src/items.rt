@@ -1,7 +1,7 @@
 //! Reads the lists of types and ids: each entry has an index and what it says, or why it has none.
 
 ghost use Rattle.serde_json.specs.View.{view};
-ghost use Rattle.pdb_json_values.specs.Faults.{Agrees};
+ghost use Rattle.pdb_json_values.specs.RecordFault.{Agrees};
 ghost use Rattle.pdb_json_records.specs.Items.{failed_stream_of, unimplemented_kind_of, error_of, content_of};
 ghost use Rattle.pdb_json_records.specs.Items.{item_of, items_of};
 

@@ -2,7 +2,7 @@
 
 ghost use Rattle.serde_json.specs.Data.{Data};
 ghost use Rattle.serde_json.specs.View.{view};
-ghost use Rattle.pdb_json_values.specs.Faults.{Fault, Agrees, read_inside};
+ghost use Rattle.pdb_json_values.specs.RecordFault.{Fault, Agrees, read_inside};
 ghost use Rattle.pdb_json_values.specs.Values.{found};
 ghost use Rattle.pdb_json_records.specs.Members.{member_of, optional_of, list_of, stream_error_of, reading_of};
 ghost use Rattle.pdb_json_records.specs.Members.{faulty_of, whole_list_of, stream_of};
@@ -88,7 +88,7 @@ impl FromJson for StreamError {
     }
 }
 
-// Reads an object with the elements of a list, and perhaps the fault that stands behind them.
+// Reads an object with the elements of a list, and perhaps the fault that stands after them.
 #[tactic(auto, unfolding(crate::specs::Members::faulty_of))]
 fn faulty<T: FromJson>(reader: Reader, object: &Value) -> Result<Reading<T>, RecordFault>
     ensures { Agrees result (faulty_of (T.read reader.version) (view object.now)) }
@@ -100,7 +100,7 @@ fn faulty<T: FromJson>(reader: Reader, object: &Value) -> Result<Reading<T>, Rec
     })
 }
 
-// Reads an array of a list's elements, behind which no fault stands.
+// Reads an array of a list's elements, after which no fault stands.
 #[tactic(auto, unfolding(crate::specs::Members::whole_list_of))]
 fn whole_list<T: FromJson>(reader: Reader, value: Option<&Value>) -> Result<Reading<T>, RecordFault>
     ensures { Agrees result (whole_list_of (T.read reader.version) (found value.entry)) }

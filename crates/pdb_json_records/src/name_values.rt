@@ -2,7 +2,7 @@
 
 ghost use Rattle.std.specs.Prelude.{◌≡◌, map, codes};
 ghost use Rattle.serde_json.specs.View.{view};
-ghost use Rattle.pdb_json_values.specs.Faults.{Agrees, AgreesBy};
+ghost use Rattle.pdb_json_values.specs.RecordFault.{Agrees, AgreesBy};
 ghost use Rattle.pdb_json_values.specs.Values.{found, text_of};
 ghost use Rattle.pdb_json_records.specs.Members.{member_of};
 ghost use Rattle.pdb_json_records.specs.NameValues.{name_of, variant_named, variant_of, unknown_kind};

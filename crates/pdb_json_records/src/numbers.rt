@@ -1,7 +1,7 @@
 //! Reads booleans and numbers by their widths.
 
 ghost use Rattle.pdb_json_values.specs.Values.{boolean_of};
-ghost use Rattle.pdb_json_values.specs.Numbers.{u8_of, u16_of, u32_of, u64_of, i8_of, i16_of, i32_of, i64_of};
+ghost use Rattle.pdb_json_values.specs.JsonNumbers.{u8_of, u16_of, u32_of, u64_of, i8_of, i16_of, i32_of, i64_of};
 
 use crate::members::FromJson;
 use pdb_json_values::{Reader, RecordFault, boolean, out_of_range, signed, unsigned};
@@ -18,7 +18,7 @@ impl FromJson for bool {
 impl FromJson for u8 {
     ghost read = { λ _. u8_of };
 
-    #[tactic(auto, unfolding(pdb_json_values::specs::Numbers::u8_of))]
+    #[tactic(auto, unfolding(pdb_json_values::specs::JsonNumbers::u8_of))]
     fn from_json(reader: Reader, value: Option<&Value>) -> Result<u8, RecordFault> {
         match u8::try_from(unsigned(reader, value)?) {
             Ok(number) => Ok(number),
@@ -30,7 +30,7 @@ impl FromJson for u8 {
 impl FromJson for u16 {
     ghost read = { λ _. u16_of };
 
-    #[tactic(auto, unfolding(pdb_json_values::specs::Numbers::u16_of))]
+    #[tactic(auto, unfolding(pdb_json_values::specs::JsonNumbers::u16_of))]
     fn from_json(reader: Reader, value: Option<&Value>) -> Result<u16, RecordFault> {
         match u16::try_from(unsigned(reader, value)?) {
             Ok(number) => Ok(number),
@@ -42,7 +42,7 @@ impl FromJson for u16 {
 impl FromJson for u32 {
     ghost read = { λ _. u32_of };
 
-    #[tactic(auto, unfolding(pdb_json_values::specs::Numbers::u32_of))]
+    #[tactic(auto, unfolding(pdb_json_values::specs::JsonNumbers::u32_of))]
     fn from_json(reader: Reader, value: Option<&Value>) -> Result<u32, RecordFault> {
         match u32::try_from(unsigned(reader, value)?) {
             Ok(number) => Ok(number),
@@ -54,7 +54,7 @@ impl FromJson for u32 {
 impl FromJson for i8 {
     ghost read = { λ _. i8_of };
 
-    #[tactic(auto, unfolding(pdb_json_values::specs::Numbers::i8_of))]
+    #[tactic(auto, unfolding(pdb_json_values::specs::JsonNumbers::i8_of))]
     fn from_json(reader: Reader, value: Option<&Value>) -> Result<i8, RecordFault> {
         match i8::try_from(signed(reader, value)?) {
             Ok(number) => Ok(number),
@@ -66,7 +66,7 @@ impl FromJson for i8 {
 impl FromJson for i16 {
     ghost read = { λ _. i16_of };
 
-    #[tactic(auto, unfolding(pdb_json_values::specs::Numbers::i16_of))]
+    #[tactic(auto, unfolding(pdb_json_values::specs::JsonNumbers::i16_of))]
     fn from_json(reader: Reader, value: Option<&Value>) -> Result<i16, RecordFault> {
         match i16::try_from(signed(reader, value)?) {
             Ok(number) => Ok(number),
@@ -78,7 +78,7 @@ impl FromJson for i16 {
 impl FromJson for i32 {
     ghost read = { λ _. i32_of };
 
-    #[tactic(auto, unfolding(pdb_json_values::specs::Numbers::i32_of))]
+    #[tactic(auto, unfolding(pdb_json_values::specs::JsonNumbers::i32_of))]
     fn from_json(reader: Reader, value: Option<&Value>) -> Result<i32, RecordFault> {
         match i32::try_from(signed(reader, value)?) {
             Ok(number) => Ok(number),
@@ -107,7 +107,7 @@ impl FromJson for i64 {
 impl FromJson for usize {
     ghost read = { λ _. u32_of };
 
-    #[tactic(auto, unfolding(pdb_json_values::specs::Numbers::u32_of))]
+    #[tactic(auto, unfolding(pdb_json_values::specs::JsonNumbers::u32_of))]
     fn from_json(reader: Reader, value: Option<&Value>) -> Result<usize, RecordFault> {
         let position = unsigned(reader, value)?;
         if position <= u64::from(u32::MAX) {

@@ -2,7 +2,7 @@
 
 ghost use Rattle.std.specs.Prelude.{◌≡◌};
 ghost use Rattle.serde_json.specs.View.{view};
-ghost use Rattle.pdb_json_values.specs.Faults.{Agrees};
+ghost use Rattle.pdb_json_values.specs.RecordFault.{Agrees};
 ghost use Rattle.pdb_json_records.specs.Members.{list_of};
 ghost use Rattle.pdb_json_records.specs.Sections.{section_of, range_of, section_offset_of};
 

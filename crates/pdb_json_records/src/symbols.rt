@@ -1,7 +1,7 @@
 //! Reads symbols and their kinds, and the indices of types, ids, files and symbols.
 
 ghost use Rattle.serde_json.specs.View.{view};
-ghost use Rattle.pdb_json_values.specs.Faults.{Agrees};
+ghost use Rattle.pdb_json_values.specs.RecordFault.{Agrees};
 ghost use Rattle.pdb_json_records.specs.Symbols.{type_index_of, id_index_of, file_index_of, symbol_index_of, public_of};
 ghost use Rattle.pdb_json_records.specs.Symbols.{procedure_of, separated_code_of, thunk_of, row_of, inline_site_of};
 ghost use Rattle.pdb_json_records.specs.Symbols.{data_named, data_of, symbol_of, symbol_table_of};

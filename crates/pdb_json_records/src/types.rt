@@ -1,7 +1,7 @@
 //! Reads types, by their kinds.
 
 ghost use Rattle.serde_json.specs.View.{view};
-ghost use Rattle.pdb_json_values.specs.Faults.{Agrees};
+ghost use Rattle.pdb_json_values.specs.RecordFault.{Agrees};
 ghost use Rattle.pdb_json_records.specs.NameValues.{variant_of};
 ghost use Rattle.pdb_json_records.specs.Types.{primitive_kinds, class_kinds, pointer_modes, primitive_of, class_of};
 ghost use Rattle.pdb_json_records.specs.Types.{member_function_of, procedure_type_of, pointer_of, dimensions_of};

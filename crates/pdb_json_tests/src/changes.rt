@@ -4,19 +4,19 @@ use crate::reading_texts::is_wanted;
 use pdb_json::read_records;
 use std::alloc::{AllocError, Global};
 
-/// What stands before a text in another one, and what stands behind it.
+/// What stands before a text in another one, and what stands after it.
 pub(crate) fn around<'t>(text: &'t str, inner: &str) -> Option<(&'t str, &'t str)> {
     text.split_once(inner)
 }
 
-/// What a line says before two ` => `, and what stands behind them.
+/// What a line says before two ` => `, and what stands after them.
 pub(crate) fn parts(line: &str) -> Option<(&str, &str, &str)> {
     let (old, rest) = around(line, " => ")?;
     let (new, wanted) = around(rest, " => ")?;
     Some((old, new, wanted))
 }
 
-/// Texts, one behind the other.
+/// Texts, one after the other.
 pub(crate) fn joined(alloc: Global, texts: &[&str]) -> Result<String, AllocError> {
     let mut joined = String::new(alloc);
     for text in texts {

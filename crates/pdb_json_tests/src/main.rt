@@ -10,12 +10,12 @@
 //! In `module_files.txt` a case is `OLD => NEW => ANSWER => FILES`, with ` & ` between the texts of module files; `-`
 //! is no module file, and `~` one with no bytes.
 //!
-//! In `names.txt` a case is `OLD => NEW => NAMES`: `names:` with each name of a module file behind it, and a `;` behind
+//! In `names.txt` a case is `OLD => NEW => NAMES`: `names:` with each name of a module file after it, and a `;` after
 //! that, or the text of a fault.
 //!
 //! In `members.txt` a line `PATH SORT` has a member or an element, and the sort of value that is wanted there. A line
 //! `SORT VALUE FAULT` of `sorts.txt` says what is put there, or that it is `absent`, and the fault that is answered
-//! behind the path, or `read`. An element can't be absent.
+//! after the path, or `read`. An element can't be absent.
 //!
 //! `small.json` is also cut off at each place. Each line with a case that differs is printed, and then how many cases
 //! there are and how many differ.

@@ -58,19 +58,19 @@ fn changed(alloc: Global, text: &str, path: &str, new: &str) -> Option<String> {
     file.to_string(alloc).ok()
 }
 
-/// What stands before the fault behind a path, and before `read`.
+/// What stands before the fault after a path, and before `read`.
 fn before<'t>(path: &'t str, fault: &str) -> &'t str {
     if fault == "read" { "" } else { path }
 }
 
-/// Whether a file is answered with a fault behind a path, or `read`.
+/// Whether a file is answered with a fault after a path, or `read`.
 fn is_read_as(alloc: Global, text: &[u8], path: &str, fault: &str) -> bool {
     joined(alloc, &[before(path, fault), fault]).is_ok_and(|wanted| {
         is_wanted(alloc, &read_records(alloc, text), wanted.as_str())
     })
 }
 
-/// Whether a file with another value at a path is answered with a fault behind the path, or `read`.
+/// Whether a file with another value at a path is answered with a fault after the path, or `read`.
 fn is_answered(alloc: Global, text: &str, path: &str, new: &str, fault: &str) -> bool {
     changed(alloc, text, path, new).is_some_and(|text| {
         is_read_as(alloc, text.as_bytes(), path, fault)

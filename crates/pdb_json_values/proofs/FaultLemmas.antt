@@ -1,8 +1,8 @@
 -- A fault ends the reading.
 use Rattle.std.proofs.Common.{Result}
-use Rattle.pdb_json_values.specs.declared.faults.RecordFault.{RecordFault}
-use Rattle.pdb_json_values.specs.declared.faults.RecordFault.TheVariants as code
-use Rattle.pdb_json_values.specs.Faults.{Fault, IsFaultOf, ◌>>=◌}
+use Rattle.pdb_json_values.specs.declared.record_fault.RecordFault.{RecordFault}
+use Rattle.pdb_json_values.specs.declared.record_fault.RecordFault.TheVariants as code
+use Rattle.pdb_json_values.specs.RecordFault.{Fault, IsFaultOf, ◌>>=◌}
 
 -- the fault of a step is the fault of the whole
 pub fault_ends : {X Y : Type 0} (fault : RecordFault) (read : Result X Fault) (next : X → Result Y Fault)

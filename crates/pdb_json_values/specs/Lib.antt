@@ -1,5 +1,5 @@
 pub use Rattle.serde_json.specs.Data
 pub mod Versions
-pub mod Faults
+pub mod RecordFault
 pub mod Values
-pub mod Numbers
+pub mod JsonNumbers

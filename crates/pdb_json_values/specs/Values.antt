@@ -5,7 +5,7 @@ use Rattle.serde_json.specs.Data.{Data, null, Items}
 use Rattle.serde_json.specs.Find.{as_bool, as_str, as_array, as_object}
 use Rattle.serde_json.specs.View.{view}
 use Rattle.serde_json.specs.declared.value.Value.{Value}
-use Rattle.pdb_json_values.specs.Faults.{Fault, shape, ◌>>=◌}
+use Rattle.pdb_json_values.specs.RecordFault.{Fault, shape, ◌>>=◌}
 
 -- a value, or null in the place of one that is absent
 abbrev pub found : Option (Bor Value) → Data

@@ -5,12 +5,12 @@
 //! name of a member in front of it, [`inside_element`] the number of an element.
 #![tactic(auto)]
 
-mod faults;
-mod numbers;
-mod reader;
+mod json_numbers;
+mod record_fault;
+mod value_reader;
 mod values;
 
-pub use faults::{RecordFault, inside, inside_element, out_of_range, wanted};
-pub use numbers::{signed, unsigned};
-pub use reader::{FIRST_VERSION, Reader, SECOND_VERSION};
+pub use json_numbers::{signed, unsigned};
+pub use record_fault::{RecordFault, inside, inside_element, out_of_range, wanted};
+pub use value_reader::{FIRST_VERSION, Reader, SECOND_VERSION};
 pub use values::{array, boolean, object, text};

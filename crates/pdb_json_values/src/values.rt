@@ -1,11 +1,11 @@
 //! Reads booleans, texts, arrays and objects of a records file.
 
 ghost use Rattle.serde_json.specs.View.{view, items_view};
-ghost use Rattle.pdb_json_values.specs.Faults.{Agrees, AgreesBy};
+ghost use Rattle.pdb_json_values.specs.RecordFault.{Agrees, AgreesBy};
 ghost use Rattle.pdb_json_values.specs.Values.{found, boolean_of, text_of, array_of, object_of};
 
-use crate::faults::{RecordFault, wanted};
-use crate::reader::Reader;
+use crate::record_fault::{RecordFault, wanted};
+use crate::value_reader::Reader;
 use serde_json::Value;
 
 /// Reads a boolean.

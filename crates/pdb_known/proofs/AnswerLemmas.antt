@@ -14,20 +14,20 @@ use Rattle.pdb_records.specs.declared.modules.ModuleInfo.{ModuleInfo}
 use Rattle.pdb_errors.specs.declared.error.Error.{Error}
 use Rattle.pdb_errors.specs.declared.error.Error.TheVariants.{PdbError}
 use Rattle.pdb_errors.specs.Outcomes.{and_then, unless}
-use Rattle.pdb_errors.specs.Provided.{ProviderInfos}
-use Rattle.pdb_functions.specs.FoundFunctions.{FoundFunction, found_procedure, found_global, function_module}
-use Rattle.pdb_functions.specs.FoundFunctions.{function_start}
+use Rattle.pdb_records.specs.Provided.{ProviderInfos}
+use Rattle.pdb_functions.specs.FunctionMatches.{FunctionMatch, found_procedure, found_global, function_module}
+use Rattle.pdb_functions.specs.FunctionMatches.{function_start}
 use Rattle.pdb_functions.specs.GlobalFunctions.{GlobalFunction}
 use Rattle.pdb_inline.specs.declared.inline_ranges.InlineRange.{InlineRange}
 use Rattle.pdb_frames.specs.CodeParts.{part_to_blame}
 use Rattle.pdb_frames.specs.ExtendedInfo.{extended_info}
 use Rattle.pdb_frames.specs.Frame.{FrameInfo, FramesInfo}
 use Rattle.pdb_frames.specs.Lines.{function_row}
-use Rattle.pdb_frames.specs.Origins.{Origin, origin, function_ranges}
+use Rattle.pdb_frames.specs.CodeLocations.{CodeLocation, code_location, function_ranges}
 use Rattle.pdb_inline.specs.InlineStacks.{inline_stack}
 use Rattle.pdb_inline.specs.InlineRanges.{inline_ranges}
 use Rattle.pdb_inline.specs.Sites.{walk}
-use Rattle.pdb_function_info.specs.Frames.{Strings, inlined_frame, inlined_frames, origin_frames, own_frame}
+use Rattle.pdb_function_info.specs.Frames.{Strings, inlined_frame, inlined_frames, code_location_frames, own_frame}
 use Rattle.pdb_function_info.specs.Frames.{function_frames, function_size}
 use Rattle.pdb_function_info.specs.Function.{info_of, info_of_procedure, sum_in_32_bits}
 use Rattle.pdb_function_info.specs.NameTexts.{function_name, id_name, symbol_name}
@@ -80,8 +80,8 @@ ok_then P (Ok a) next each = each a
 ok_then P (Err e) next each = tt
 
 -- the ids of the bodies over an offset of a function
-pub stack_in : (is_in : ℕ → Bool) (info : ModuleInfo) (found : FoundFunction) (x : ℕ) → AreSiteIdsIn is_in info
-    → IfOk (origin info found x) (λ o. AllByRecursion (IsBodyIn is_in) o.stack)
+pub stack_in : (is_in : ℕ → Bool) (info : ModuleInfo) (found : FunctionMatch) (x : ℕ) → AreSiteIdsIn is_in info
+    → IfOk (code_location info found x) (λ o. AllByRecursion (IsBodyIn is_in) o.stack)
 stack_in is_in info found x sites =
     ok_then AreIn (extended_info info) (λ known.
     and_then (function_row known.line_program (function_start found) x) (λ row.
@@ -90,10 +90,10 @@ stack_in is_in info found x sites =
     and_then (function_ranges known.inlinees info found) (made known.line_program row)) (λ row.
     by_kind known.inlinees known.line_program row found))
   where
-    AreIn : Origin → Type 0
+    AreIn : CodeLocation → Type 0
     AreIn o = AllByRecursion (IsBodyIn is_in) o.stack
 
-    made : Lines → Option LineInfo → List InlineRange → Result Origin Error
+    made : Lines → Option LineInfo → List InlineRange → Result CodeLocation Error
     made program row ranges = Ok (record { line_program = program; row = row; stack = inline_stack ranges x })
 
     by_fault : (program : Lines) (row : Option LineInfo) (ranges : List InlineRange)
@@ -102,7 +102,7 @@ stack_in is_in info found x sites =
     by_fault program row ranges all None = all
     by_fault program row ranges all (Some fault) = tt
 
-    by_kind : (inlinees : List IdIndex) (program : Lines) (row : Option LineInfo) (f : FoundFunction)
+    by_kind : (inlinees : List IdIndex) (program : Lines) (row : Option LineInfo) (f : FunctionMatch)
         → IfOk (and_then (function_ranges inlinees info f) (made program row)) AreIn
     by_kind inlinees program row (found_global m f) = tt
     by_kind inlinees program row (found_procedure m p) =
@@ -112,15 +112,15 @@ stack_in is_in info found x sites =
 
 -- the frames of a function, where its own name is the same, and so are those of the inlined bodies
 function_frames_same : (is_in : ℕ → Bool) (strings : Strings) (name_of other_of : IdIndex → Option (List ℕ))
-    (name other : Option (List ℕ)) (records : Option ModuleInfo) (found : FoundFunction) (x : ℕ) → name ≡ other
+    (name other : Option (List ℕ)) (records : Option ModuleInfo) (found : FunctionMatch) (x : ℕ) → name ≡ other
     → ((id : IdIndex) → is_in id.0 ≡ true → name_of id ≡ other_of id) → IfSome records (AreSiteIdsIn is_in)
     → function_frames strings name_of name records found x ≡ function_frames strings other_of other records found x
 function_frames_same is_in strings name_of other_of name other None found x same ids sites = cc (same)
 function_frames_same is_in strings name_of other_of name other (Some info) found x same ids sites =
-    by_origin (origin info found x) (stack_in is_in info found x sites) where
-      by_origin : (from : Result Origin Error) → IfOk from (λ o. AllByRecursion (IsBodyIn is_in) o.stack)
-          → and_then from (λ o. Ok (origin_frames strings name_of name o))
-          ≡ and_then from (λ o. Ok (origin_frames strings other_of other o))
+    by_origin (code_location info found x) (stack_in is_in info found x sites) where
+      by_origin : (from : Result CodeLocation Error) → IfOk from (λ o. AllByRecursion (IsBodyIn is_in) o.stack)
+          → and_then from (λ o. Ok (code_location_frames strings name_of name o))
+          ≡ and_then from (λ o. Ok (code_location_frames strings other_of other o))
       by_origin (Err error) all = refl
       by_origin (Ok o) all =
           let bodies : inlined_frames strings o.line_program name_of o.stack
@@ -137,7 +137,7 @@ function_frames_same is_in strings name_of other_of name other (Some info) found
           ++ own_frame strings n o.line_program o.row ∷ [])) same
 
 -- the frames info of a function with these frames
-abbrev framed : List AddressRange → List GlobalFunction → FoundFunction → Result (List FrameInfo) Error
+abbrev framed : List AddressRange → List GlobalFunction → FunctionMatch → Result (List FrameInfo) Error
     → Result (Option FramesInfo) Error
 framed sections globals found frames =
     option_map_or (λ start.
@@ -150,12 +150,12 @@ framed sections globals found frames =
 
 -- a function that was found, of a module that the part knows
 module _ {P : Type 0} (info : P → ProviderInfos) (part whole : ContextInputs P) (front : HasSameFront part whole)
-    (found : FoundFunction) (known : KnowsFunction info part whole found) where
+    (found : FunctionMatch) (known : KnowsFunction info part whole found) where
   -- its name
   name_same : function_name info part.type_inputs (global_functions_of part) found
       ≡ function_name info whole.type_inputs (global_functions_of part) found
   name_same = by_kind found known.knows known.typed where
-    by_kind : (f : FoundFunction) → KnowsModule known.at info part whole (function_module f)
+    by_kind : (f : FunctionMatch) → KnowsModule known.at info part whole (function_module f)
         → IsTypeIn known.at.types f
         → function_name info part.type_inputs (global_functions_of part) f
         ≡ function_name info whole.type_inputs (global_functions_of part) f
@@ -170,7 +170,7 @@ module _ {P : Type 0} (info : P → ProviderInfos) (part whole : ContextInputs P
   info_of_same = by_kind found known.knows known.typed
       ∙ rw (front.address_map, front.sections, front.debug_information, front.global_symbols) refl
     where
-      by_kind : (f : FoundFunction) → KnowsModule known.at info part whole (function_module f)
+      by_kind : (f : FunctionMatch) → KnowsModule known.at info part whole (function_module f)
           → IsTypeIn known.at.types f
           → info_of info part.type_inputs part.address_map (global_functions_of part) f
           ≡ info_of info whole.type_inputs part.address_map (global_functions_of part) f

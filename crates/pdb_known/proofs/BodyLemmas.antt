@@ -14,7 +14,7 @@ use Rattle.pdb_tables.proofs.SortLemmas.{all_put}
 use Rattle.pdb_inline.specs.declared.inline_ranges.InlineRange.{InlineRange}
 use Rattle.pdb_inline.specs.InlineRanges.{own_range, own_ranges, added_range, added_ranges, first_file, missing}
 use Rattle.pdb_inline.specs.InlineRanges.{inline_ranges, read_ranges, range_before}
-use Rattle.pdb_inline.specs.InlineRows.{counted_rows}
+use Rattle.pdb_inline.specs.SiteRows.{counted_rows}
 use Rattle.pdb_inline.specs.InlineStacks.{lies_over, stack_from, inline_stack, depths, with_outer}
 use Rattle.pdb_inline.specs.Sites.{Site, OpenSite, Walk, walk, walk_from, innermost_end, after_close, found_first}
 use Rattle.pdb_inline.specs.Sites.{opened_at, site_of, nested_end, through_after, open_after, depth}
@@ -40,7 +40,7 @@ all_flat_map Q P f each [] all = tt
 all_flat_map Q P f each (x ∷ xs) all =
     all_append P (f x) (flat_map f xs) (each x all.0) (all_flat_map Q P f each xs all.1)
 
--- what holds of all holds of those behind a position
+-- what holds of all holds of those after a position
 all_drop : {A : Type 0} (P : A → Type 0) (n : ℕ) (xs : List A) → AllByRecursion P xs → AllByRecursion P (drop n xs)
 all_drop P zero xs all = all
 all_drop P (suc n) [] all = tt

@@ -15,12 +15,12 @@ use Rattle.pdb_records.specs.declared.ids.IdIndex.{IdIndex}
 use Rattle.pdb_records.specs.declared.modules.ModuleInfo.{ModuleInfo}
 use Rattle.pdb_records.specs.declared.symbols.Symbol.{Symbol}
 use Rattle.pdb_records.specs.declared.types.Item.{Item}
-use Rattle.pdb_types.specs.Items.{first_item}
-use Rattle.pdb_types.specs.Reading.{entry, said}
+use Rattle.pdb_types.specs.ItemMap.{first_item}
+use Rattle.pdb_types.specs.ItemReading.{entry, said}
 use Rattle.pdb_types.specs.Resolution.{resolved, answered}
 use Rattle.pdb_types.specs.TypeInputs.{LinkInputs}
-use Rattle.pdb_functions.specs.FoundFunctions.{procedures_of_module}
-use Rattle.pdb_functions.specs.ModuleInfos.{readable_info}
+use Rattle.pdb_functions.specs.FunctionMatches.{procedures_of_module}
+use Rattle.pdb_functions.specs.ModuleInfoCache.{readable_info}
 use Rattle.pdb_inline.specs.Sites.{site_of}
 use Rattle.pdb_addr2line.specs.ContextData.{info_at}
 use Rattle.pdb_part_laws.specs.Asked.{alone}

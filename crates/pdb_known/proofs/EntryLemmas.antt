@@ -9,9 +9,9 @@ use Rattle.pdb_records.specs.declared.types.TypeData.{TypeData}
 use Rattle.pdb_records.specs.declared.ids.IdIndex.{IdIndex}
 use Rattle.pdb_records.specs.declared.ids.IdData.{IdData}
 use Rattle.pdb_errors.specs.Outcomes.{and_then}
-use Rattle.pdb_errors.specs.Provided.{ProviderInfos}
+use Rattle.pdb_records.specs.Provided.{ProviderInfos}
 use Rattle.pdb_types.specs.ForwardReferences.{Aggregate, aggregate, size_behind, forward_size}
-use Rattle.pdb_types.specs.Reading.{entry, reading}
+use Rattle.pdb_types.specs.ItemReading.{entry, reading}
 use Rattle.pdb_types.specs.ReadError.{ReadErrorView}
 use Rattle.pdb_types.specs.Resolution.{resolved}
 use Rattle.pdb_types.specs.SizeLaws.{Leads}
@@ -19,7 +19,7 @@ use Rattle.pdb_types.specs.Sizes.{underneath}
 use Rattle.pdb_types.specs.TypeInputs.{TypeInputs, LinkInputs, link_inputs}
 use Rattle.pdb_types.specs.TypeSizes.{read_type, size_elsewhere, step, step_after, step_from, type_size}
 use Rattle.pdb_types.proofs.ForwardLemmas.{forward_size-read}
-use Rattle.pdb_documents.specs.PrintInputs.{type_at, id_at, formatter_inputs}
+use Rattle.pdb_type_texts.specs.PrintInputs.{type_at, id_at, formatter_inputs}
 use Rattle.pdb_part_laws.specs.Asked.{Indices, AgreeAt, IsClosedAt, AreTypesIn, alone}
 use Rattle.pdb_part_laws.specs.Chains.{AgreeOn, IsClosed}
 use Rattle.pdb_part_laws.proofs.ChainLemmas.{sizes_agree}
@@ -46,7 +46,7 @@ id_same link ids other_link others module_index index same =
     ap (λ (r : Result (ℕ × IdData) ReadErrorView). and_then r (λ read. Ok read.1))
     (reading_same (λ i. i.0) link ids other_link others module_index index same)
 
--- the size of a forward reference's definition behind an entry that both have
+-- the size of a forward reference's definition after an entry that both have
 elsewhere_same : (types others : Read (Item TypeIndex TypeData)) (number : ℕ) (content : TypeData)
     → entry (λ i. i.0) types number ≡ Ok content → entry (λ i. i.0) others number ≡ Ok content
     → forward_size number types.items ≡ forward_size number others.items

@@ -9,12 +9,12 @@ use Rattle.pdb_records.specs.declared.addresses.AddressRange.{AddressRange}
 use Rattle.pdb_records.specs.declared.ids.IdIndex.{IdIndex}
 use Rattle.pdb_records.specs.declared.modules.ModuleInfo.{ModuleInfo}
 use Rattle.pdb_errors.specs.declared.error.Error.{Error}
-use Rattle.pdb_errors.specs.Provided.{ProviderInfos}
+use Rattle.pdb_records.specs.Provided.{ProviderInfos}
 use Rattle.pdb_types.specs.FailedParts.{Parts}
-use Rattle.pdb_functions.specs.FoundFunctions.{FoundFunction, found_procedure, found_global, function_module}
-use Rattle.pdb_functions.specs.FoundFunctions.{function_start}
+use Rattle.pdb_functions.specs.FunctionMatches.{FunctionMatch, found_procedure, found_global, function_module}
+use Rattle.pdb_functions.specs.FunctionMatches.{function_start}
 use Rattle.pdb_inline.specs.declared.inline_ranges.InlineRange.{InlineRange}
-use Rattle.pdb_frames.specs.Origins.{Origin, origin}
+use Rattle.pdb_frames.specs.CodeLocations.{CodeLocation, code_location}
 use Rattle.pdb_function_info.specs.Frames.{failed_by_ids, failed_by_frames, bodies_over}
 use Rattle.pdb_function_info.specs.Function.{failed_after_info}
 use Rattle.pdb_function_info.specs.NameTexts.{failed_by_function_name, failed_by_id}
@@ -26,13 +26,13 @@ use Rattle.pdb_known.proofs.FoundLemmas.{KnowsFunction, IsTypeIn, found_same, fu
 use Rattle.pdb_known.proofs.NameLemmas.{failed_by_name_same, failed_by_id_same}
 
 -- the ids of inlined bodies are in a set
-bodies_in_set : (is_in : ℕ → Bool) (records : Option ModuleInfo) (found : FoundFunction) (x : ℕ)
+bodies_in_set : (is_in : ℕ → Bool) (records : Option ModuleInfo) (found : FunctionMatch) (x : ℕ)
     → IfSome records (AreSiteIdsIn is_in) → AllByRecursion (IsBodyIn is_in) (bodies_over records found x)
 bodies_in_set is_in None found x sites = tt
 bodies_in_set is_in (Some info) found x sites =
-    by_origin (origin info found x) (stack_in is_in info found x sites) where
-      by_origin : (from : Result Origin Error) → IfOk from (λ o. AllByRecursion (IsBodyIn is_in) o.stack)
-          → AllByRecursion (IsBodyIn is_in) (option_map_or (λ (o : Origin). o.stack) (result_ok from) [])
+    by_origin (code_location info found x) (stack_in is_in info found x sites) where
+      by_origin : (from : Result CodeLocation Error) → IfOk from (λ o. AllByRecursion (IsBodyIn is_in) o.stack)
+          → AllByRecursion (IsBodyIn is_in) (option_map_or (λ (o : CodeLocation). o.stack) (result_ok from) [])
       by_origin (Ok o) all = all
       by_origin (Err error) all = tt
 
@@ -48,7 +48,7 @@ failed_by_ids_same f g (range ∷ ranges) failed same =
 
 -- a function that was found, of a module that the part knows
 module _ {P : Type 0} (info : P → ProviderInfos) (part whole : ContextInputs P) (front : HasSameFront part whole)
-    (found : FoundFunction) (known : KnowsFunction info part whole found) where
+    (found : FunctionMatch) (known : KnowsFunction info part whole found) where
   -- the parts that failed by its function info
   failed_after_info_same : (failed : Parts)
       → failed_after_info info part.type_inputs part.address_map (global_functions_of part) found failed
@@ -56,7 +56,7 @@ module _ {P : Type 0} (info : P → ProviderInfos) (part whole : ContextInputs P
   failed_after_info_same failed = by_kind found known.knows known.typed
       ∙ rw (front.address_map, front.sections, front.debug_information, front.global_symbols) refl
     where
-      by_kind : (f : FoundFunction) → KnowsModule known.at info part whole (function_module f)
+      by_kind : (f : FunctionMatch) → KnowsModule known.at info part whole (function_module f)
           → IsTypeIn known.at.types f
           → failed_after_info info part.type_inputs part.address_map (global_functions_of part) f failed
           ≡ failed_after_info info whole.type_inputs part.address_map (global_functions_of part) f failed
@@ -71,7 +71,7 @@ module _ {P : Type 0} (info : P → ProviderInfos) (part whole : ContextInputs P
       → failed_by_function_name info part.type_inputs (global_functions_of part) found failed
       ≡ failed_by_function_name info whole.type_inputs (global_functions_of part) found failed
   failed_by_function_name_same failed = by_kind found known.knows known.typed where
-    by_kind : (f : FoundFunction) → KnowsModule known.at info part whole (function_module f)
+    by_kind : (f : FunctionMatch) → KnowsModule known.at info part whole (function_module f)
         → IsTypeIn known.at.types f
         → failed_by_function_name info part.type_inputs (global_functions_of part) f failed
         ≡ failed_by_function_name info whole.type_inputs (global_functions_of part) f failed

@@ -5,14 +5,14 @@ use Rattle.std.specs.Prelude.{option_and_then}
 use Rattle.pdb_records.specs.Addresses.{internal_offset}
 use Rattle.pdb_records.specs.declared.addresses.PdbInternalSectionOffset.{PdbInternalSectionOffset}
 use Rattle.pdb_records.specs.declared.debug_information.Module.{Module}
-use Rattle.pdb_errors.specs.Provided.{ProviderInfos}
+use Rattle.pdb_records.specs.Provided.{ProviderInfos}
 use Rattle.pdb_tables.specs.Pick.{pick}
-use Rattle.pdb_functions.specs.declared.contributions.ModuleSectionContribution.{ModuleSectionContribution}
-use Rattle.pdb_functions.specs.FoundFunctions.{FoundFunction, found_procedure, found_global, function_module}
-use Rattle.pdb_functions.specs.FoundFunctions.{procedures_of_module, function_over, function_in_contribution}
-use Rattle.pdb_functions.specs.FoundFunctions.{found_or_global, global_in}
+use Rattle.pdb_functions.specs.declared.merged_contributions.ModuleSectionContribution.{ModuleSectionContribution}
+use Rattle.pdb_functions.specs.FunctionMatches.{FunctionMatch, found_procedure, found_global, function_module}
+use Rattle.pdb_functions.specs.FunctionMatches.{procedures_of_module, function_over, function_in_contribution}
+use Rattle.pdb_functions.specs.FunctionMatches.{found_or_global, global_in}
 use Rattle.pdb_functions.specs.GlobalFunctions.{GlobalFunction}
-use Rattle.pdb_functions.specs.ModuleInfos.{readable_info}
+use Rattle.pdb_functions.specs.ModuleInfoCache.{readable_info}
 use Rattle.pdb_functions.specs.Procedures.{ModuleProcedure, provided_procedures}
 use Rattle.pdb_functions.specs.Spans.{contribution_covers, procedure_covers, global_function_covers}
 use Rattle.pdb_addr2line.specs.ContextInputs.{ContextInputs, contributions_of, global_functions_of}
@@ -66,7 +66,7 @@ over_same infos others modules contributions globals (Some place) same =
           (procedures_same infos others modules c.module_index (same c is))
 
 -- a function is of this module, and its type is in the set where it is a procedure
-abbrev IsOf : (ℕ → Bool) → ℕ → FoundFunction → Type 0
+abbrev IsOf : (ℕ → Bool) → ℕ → FunctionMatch → Type 0
 IsOf is_in module_index (found_procedure m p) = (m ≡ module_index) × (is_in p.type_index.0 ≡ true)
 IsOf is_in module_index (found_global m f) = m ≡ module_index
 
@@ -97,13 +97,13 @@ found_of is_in infos modules globals place c types =
     by_procedure (Some p) holds = (refl, holds)
 
 -- where a function is a procedure, its type is in the set
-abbrev pub IsTypeIn : (ℕ → Bool) → FoundFunction → Type 0
+abbrev pub IsTypeIn : (ℕ → Bool) → FunctionMatch → Type 0
 IsTypeIn is_in (found_procedure m p) = is_in p.type_index.0 ≡ true
 IsTypeIn is_in (found_global m f) = ⊤
 
 -- the part knows the module of a function, and its type is in a set where it is a procedure
 pub record KnowsFunction {P : Type 0} (info : P → ProviderInfos) (part whole : ContextInputs P)
-    (found : FoundFunction) : Type 0 where
+    (found : FunctionMatch) : Type 0 where
   pub at : Indices
   pub knows : KnowsModule at info part whole (function_module found)
   pub typed : IsTypeIn at.types found
@@ -126,11 +126,11 @@ module _ {P : Type 0} (info : P → ProviderInfos) (part whole : ContextInputs P
       ) refl
 
   -- the module of what lies over the address
-  pub function_known : (found : FoundFunction) → found_at info part address ≡ Some found
+  pub function_known : (found : FunctionMatch) → found_at info part address ≡ Some found
       → KnowsFunction info part whole found
   function_known found is =
       by_place (internal_offset part.address_map (record { 0 = address })) known.«module» is where
-        by_kind : (at : Indices) (c : ModuleSectionContribution) (f : FoundFunction) → IsOf at.types c.module_index f
+        by_kind : (at : Indices) (c : ModuleSectionContribution) (f : FunctionMatch) → IsOf at.types c.module_index f
             → KnowsModule at info part whole c.module_index → KnowsFunction info part whole f
         by_kind at c (found_procedure m p) of knows = record {
           at = at;

@@ -12,10 +12,10 @@ use Rattle.pdb_records.specs.declared.types.TypeData.{TypeData}
 use Rattle.pdb_records.specs.declared.types.TypeIndex.{TypeIndex}
 use Rattle.pdb_types.specs.declared.flags.TypeFormatterFlags.{TypeFormatterFlags}
 use Rattle.pdb_types.specs.ForwardReferences.{forward_size}
-use Rattle.pdb_types.specs.Reading.{entry}
+use Rattle.pdb_types.specs.ItemReading.{entry}
 use Rattle.pdb_types.specs.Sizes.{underneath}
 use Rattle.pdb_types.specs.TypeInputs.{LinkInputs, link_inputs, program_pointer_size}
-use Rattle.pdb_functions.specs.declared.contributions.ModuleSectionContribution.{ModuleSectionContribution}
+use Rattle.pdb_functions.specs.declared.merged_contributions.ModuleSectionContribution.{ModuleSectionContribution}
 use Rattle.pdb_addr2line.specs.ContextData.{context_of, sections_read}
 use Rattle.pdb_addr2line.specs.ContextInputs.{ContextInputs}
 use Rattle.pdb_addr2line.specs.Lookups.{contribution_at}

@@ -3,12 +3,12 @@ use Rattle.std.proofs.Common.{◌≡◌, ℕ, List, [], true, ap}
 use Rattle.std.specs.Option.{option_or, option_map_or}
 use Rattle.pdb_records.specs.Names.{lossy}
 use Rattle.pdb_records.specs.declared.ids.IdIndex.{IdIndex}
-use Rattle.pdb_errors.specs.Provided.{ProviderInfos}
+use Rattle.pdb_records.specs.Provided.{ProviderInfos}
 use Rattle.pdb_types.specs.FailedParts.{Parts}
 use Rattle.pdb_types.specs.TypeInputs.{TypeInputs}
-use Rattle.pdb_documents.specs.Documents.{Run, run, Document}
-use Rattle.pdb_documents.specs.Printed.{signature_run, id_run}
-use Rattle.pdb_documents.specs.PrintInputs.{formatter_inputs}
+use Rattle.pdb_type_texts.specs.Documents.{Run, run, Document}
+use Rattle.pdb_type_texts.specs.Printed.{signature_run, id_run}
+use Rattle.pdb_type_texts.specs.PrintInputs.{formatter_inputs}
 use Rattle.pdb_functions.specs.GlobalFunctions.{GlobalFunction}
 use Rattle.pdb_functions.specs.Procedures.{ModuleProcedure}
 use Rattle.pdb_function_info.specs.NameTexts.{procedure_name, failed_by_name, id_name, failed_by_id, decorated_instead}

@@ -5,7 +5,7 @@ use Rattle.std.specs.Result.{result_unwrap_or}
 use Rattle.pdb_records.specs.Readings.{Read}
 use Rattle.pdb_records.specs.declared.types.Item.{Item}
 use Rattle.pdb_errors.specs.Outcomes.{and_then}
-use Rattle.pdb_types.specs.Reading.{entry, reading}
+use Rattle.pdb_types.specs.ItemReading.{entry, reading}
 use Rattle.pdb_types.specs.ReadError.{ReadErrorView, Missing}
 use Rattle.pdb_types.specs.Resolution.{resolved}
 use Rattle.pdb_types.specs.TypeInputs.{LinkInputs}

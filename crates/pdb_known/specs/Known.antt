@@ -14,9 +14,9 @@ use Rattle.pdb_records.specs.declared.types.ItemInformation.{ItemInformation}
 use Rattle.pdb_records.specs.declared.types.TypeData.{TypeData}
 use Rattle.pdb_records.specs.declared.types.TypeIndex.{TypeIndex}
 use Rattle.pdb_errors.specs.declared.error.Error.{Error}
-use Rattle.pdb_errors.specs.Provided.{ProviderInfos}
+use Rattle.pdb_records.specs.Provided.{ProviderInfos}
 use Rattle.pdb_types.specs.ForwardReferences.{forward_size}
-use Rattle.pdb_types.specs.Reading.{entry}
+use Rattle.pdb_types.specs.ItemReading.{entry}
 use Rattle.pdb_types.specs.Sizes.{underneath}
 use Rattle.pdb_functions.specs.Procedures.{provided_procedures}
 use Rattle.pdb_inline.specs.Sites.{site_of}

@@ -4,9 +4,9 @@ use Rattle.pdb_records.specs.Readings.{Read}
 use Rattle.pdb_records.specs.declared.types.Item.{Item}
 use Rattle.pdb_records.specs.declared.types.TypeData.{TypeData}
 use Rattle.pdb_records.specs.declared.ids.IdData.{IdData}
-use Rattle.pdb_errors.specs.Provided.{ProviderInfos}
+use Rattle.pdb_records.specs.Provided.{ProviderInfos}
 use Rattle.pdb_types.specs.ForwardReferences.{forward_size}
-use Rattle.pdb_types.specs.Reading.{entry}
+use Rattle.pdb_types.specs.ItemReading.{entry}
 use Rattle.pdb_types.specs.Resolution.{resolved}
 use Rattle.pdb_types.specs.Sizes.{underneath}
 use Rattle.pdb_types.specs.TypeInputs.{TypeInputs, LinkInputs, link_inputs}

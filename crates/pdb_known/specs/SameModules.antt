@@ -4,10 +4,10 @@ use Rattle.std.specs.List.{AllByRecursion}
 use Rattle.pdb_records.specs.declared.debug_information.Module.{Module}
 use Rattle.pdb_records.specs.declared.modules.ModuleInfo.{ModuleInfo}
 use Rattle.pdb_records.specs.declared.symbols.Symbol.{Symbol}
-use Rattle.pdb_errors.specs.Provided.{ProviderInfos}
-use Rattle.pdb_functions.specs.declared.contributions.ModuleSectionContribution.{ModuleSectionContribution}
-use Rattle.pdb_functions.specs.FoundFunctions.{procedures_of_module}
-use Rattle.pdb_functions.specs.ModuleInfos.{readable_info}
+use Rattle.pdb_records.specs.Provided.{ProviderInfos}
+use Rattle.pdb_functions.specs.declared.merged_contributions.ModuleSectionContribution.{ModuleSectionContribution}
+use Rattle.pdb_functions.specs.FunctionMatches.{procedures_of_module}
+use Rattle.pdb_functions.specs.ModuleInfoCache.{readable_info}
 use Rattle.pdb_functions.specs.Procedures.{ModuleProcedure}
 use Rattle.pdb_inline.specs.Sites.{site_of}
 use Rattle.pdb_addr2line.specs.ContextInputs.{ContextInputs}

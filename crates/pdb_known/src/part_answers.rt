@@ -2,7 +2,7 @@
 
 ghost use Rattle.std.specs.Prelude.{◌≡◌, ℕ};
 ghost use Rattle.pdb_records.specs.Records.{Records};
-ghost use Rattle.pdb_errors.specs.Provided.{ProviderInfos};
+ghost use Rattle.pdb_records.specs.Provided.{ProviderInfos};
 ghost use Rattle.pdb_addr2line.specs.ContextInputs.{ContextInputs};
 ghost use Rattle.pdb_addr2line.specs.Lookups.{function_at, frames_at, blamed_at};
 ghost use Rattle.pdb_addr2line.specs.NamedFunctions.{symbol_name_at};

@@ -3,9 +3,9 @@
 ghost use Rattle.std.specs.Prelude.{◌≡◌, ℕ, true, List};
 ghost use Rattle.pdb_records.specs.Records.{Records};
 ghost use Rattle.pdb_records.specs.declared.ids.IdIndex.{IdIndex};
-ghost use Rattle.pdb_errors.specs.Provided.{ProviderInfos};
+ghost use Rattle.pdb_records.specs.Provided.{ProviderInfos};
 ghost use Rattle.pdb_types.specs.TypeInputs.{TypeInputs};
-ghost use Rattle.pdb_documents.specs.PrintInputs.{formatter_inputs};
+ghost use Rattle.pdb_type_texts.specs.PrintInputs.{formatter_inputs};
 ghost use Rattle.pdb_functions.specs.GlobalFunctions.{GlobalFunction};
 ghost use Rattle.pdb_functions.specs.Procedures.{ModuleProcedure};
 ghost use Rattle.pdb_function_info.specs.NameTexts.{procedure_name, id_name};

@@ -3,16 +3,16 @@ use Rattle.std.proofs.Common.{◌≡◌, ℕ, List, Option, Some, None, refl, su
 use Rattle.pdb_errors.specs.declared.error.Error.TheVariants.{CircularTypeDefinition}
 use Rattle.pdb_errors.specs.Errors.{ErrorView, Plain}
 use Rattle.pdb_types.specs.FailedParts.{Parts}
-use Rattle.pdb_documents.specs.Documents.{Document, Failure, TypeNotFound, OfError, Run, then_by, buffered_by}
-use Rattle.pdb_documents.specs.Documents.{caught_by, run}
-use Rattle.pdb_documents.specs.Documents as document
-use Rattle.pdb_documents.specs.Plans.{Task, Plan, Later, Seq, Buffered, Catch, circular}
-use Rattle.pdb_documents.specs.Printed.{AlikeFault}
-use Rattle.pdb_documents.specs.Rules.{rule}
-use Rattle.pdb_documents.specs.Unfolding.{Unfolds, done, later, seq, buffered, catch}
-use Rattle.pdb_documents.specs.PrintInputs.{PrintInputs}
-use Rattle.pdb_documents.proofs.AlikeLemmas.{alike-runs}
-use Rattle.pdb_documents.proofs.UnfoldingLemmas.{unfolds_once}
+use Rattle.pdb_type_texts.specs.Documents.{Document, PrintError, TypeNotFound, OfError, Run, then_by, buffered_by}
+use Rattle.pdb_type_texts.specs.Documents.{caught_by, run}
+use Rattle.pdb_type_texts.specs.Documents as document
+use Rattle.pdb_type_texts.specs.Plans.{Task, Plan, Later, Seq, Buffered, Catch, circular}
+use Rattle.pdb_type_texts.specs.Printed.{AlikeFault}
+use Rattle.pdb_type_texts.specs.Rules.{rule}
+use Rattle.pdb_type_texts.specs.Unfolding.{Unfolds, done, later, seq, buffered, catch}
+use Rattle.pdb_type_texts.specs.PrintInputs.{PrintInputs}
+use Rattle.pdb_type_texts.proofs.AlikeLemmas.{alike-runs}
+use Rattle.pdb_type_texts.proofs.UnfoldingLemmas.{unfolds_once}
 use Rattle.pdb_laws.specs.Circles.{Repeats, Succeeds, MeetsCircle, at_task, in_rule, in_first, in_second, in_buffer}
 use Rattle.pdb_laws.specs.Circles.{in_caught}
 use Rattle.pdb_laws.proofs.ReadLemmas.{AreGoodPrintInputs}
@@ -20,14 +20,14 @@ use Rattle.pdb_laws.proofs.PlanLemmas.{HasPrintErrors, IsGoodPlan}
 use Rattle.pdb_laws.proofs.TaskRuleLemmas.{RuleGives, circle, good, rule_gives, repeats_circular}
 
 -- a failure is the refusal of this index as circular
-abbrev pub Circle : ℕ → Option Failure
+abbrev pub Circle : ℕ → Option PrintError
 Circle index = Some (OfError (Plain (CircularTypeDefinition index)))
 
 -- a document that succeeds once succeeds whatever failed before
 pub succeeds_always : (d : Document) (failed : Parts) → (run d failed).fault ≡ None → Succeeds d
 succeeds_always d failed is failed' =
     by_fault (run d failed').fault refl (rw is at (alike-runs d failed failed').fault) where
-      by_fault : (fault : Option Failure) → (run d failed').fault ≡ fault → AlikeFault None (run d failed').fault
+      by_fault : (fault : Option PrintError) → (run d failed').fault ≡ fault → AlikeFault None (run d failed').fault
           → (run d failed').fault ≡ None
       by_fault None was alike = was
       by_fault (Some f) was alike = absurd (rw was at alike)
@@ -81,33 +81,33 @@ circle_met w reads (later {inside = inside} {task = task} {d = d} u) plan failed
 circle_met w reads (seq {p = p} {q = q} {a = a} {b = b} x y) plan failed index is =
     by_fault (run a failed).fault refl (λ h. circle_met w reads x plan.0 failed index h)
     (λ h. circle_met w reads y plan.1 (run a failed).failed index h) where
-      by_fault : (fault : Option Failure) → (run a failed).fault ≡ fault
+      by_fault : (fault : Option PrintError) → (run a failed).fault ≡ fault
           → ((run a failed).fault ≡ Circle index → MeetsCircle w p index)
           → ((run b (run a failed).failed).fault ≡ Circle index → MeetsCircle w q index) → MeetsCircle w (Seq p q) index
       by_fault None was first second = in_second x (succeeds_always a failed was) (second (rw was at is))
       by_fault (Some f) was first second = in_first (first (was ∙ (rw was at is)))
 circle_met w reads (buffered {p = p} {a = a} {after_sigil = after_sigil} {after_other = after_other} x) plan failed
     index is = by_fault (run a failed).fault refl (λ h. circle_met w reads x plan failed index h) where
-      by_fault : (fault : Option Failure) → (run a failed).fault ≡ fault
+      by_fault : (fault : Option PrintError) → (run a failed).fault ≡ fault
           → ((run a failed).fault ≡ Circle index → MeetsCircle w p index)
           → MeetsCircle w (Buffered p after_sigil after_other) index
       by_fault None was inner = let h = rw was at is in absurd (cc)
       by_fault (Some f) was inner = in_buffer (inner (was ∙ (rw was at is)))
 circle_met w reads (catch {p = p} {a = a} x) plan failed index is =
     by_fault (run a failed).fault refl (λ h. circle_met w reads x plan failed index h) where
-      by_fault : (fault : Option Failure) → (run a failed).fault ≡ fault
+      by_fault : (fault : Option PrintError) → (run a failed).fault ≡ fault
           → ((run a failed).fault ≡ Circle index → MeetsCircle w p index) → MeetsCircle w (Catch p) index
       by_fault None was inner = let h = rw was at is in absurd (cc)
       by_fault (Some (TypeNotFound i)) was inner = let h = rw was at is in absurd (cc)
       by_fault (Some (OfError e)) was inner = in_caught (inner (was ∙ (rw was at is)))
 
 -- what fails first fails for both
-then_fails : (f : Failure) (first : Run) (second : Parts → Run) → first.fault ≡ Some f
+then_fails : (f : PrintError) (first : Run) (second : Parts → Run) → first.fault ≡ Some f
     → (then_by first.fault first second).fault ≡ Some f
 then_fails f first second is = rw is refl
 
 -- what is held back and fails
-buffer_fails : (f : Failure) (inner : Run) (after_sigil after_other : List ℕ) → inner.fault ≡ Some f
+buffer_fails : (f : PrintError) (inner : Run) (after_sigil after_other : List ℕ) → inner.fault ≡ Some f
     → (buffered_by inner.fault inner after_sigil after_other).fault ≡ Some f
 buffer_fails f inner after_sigil after_other is = rw is refl
 

@@ -23,23 +23,23 @@ use Rattle.pdb_errors.specs.Errors.{ErrorView, Plain}
 use Rattle.pdb_types.specs.FailedParts.{Parts, has_failed, unsuccessful, part_error}
 use Rattle.pdb_errors.specs.Outcomes.{and_then}
 use Rattle.pdb_types.specs.ReadError.{ReadErrorView, Missing, Unimplemented, Refused, Broken}
-use Rattle.pdb_documents.specs.declared.attributes.Attribute.{Attribute}
-use Rattle.pdb_documents.specs.declared.attributes.Predecessor.TheVariants.{Opening}
-use Rattle.pdb_documents.specs.declared.tasks.MethodForm.{MethodForm}
-use Rattle.pdb_documents.specs.Attributes.{attributes_text}
-use Rattle.pdb_documents.specs.Documents.{Document, TypeNotFound, OfError, run}
-use Rattle.pdb_documents.specs.Documents as document
-use Rattle.pdb_documents.specs.Flags.{without_arguments, without_return_type}
-use Rattle.pdb_documents.specs.Wording.{comma, function_name, dimensions_text}
-use Rattle.pdb_documents.specs.Functions.{unless_left_out, returned, further_types, types_between, function_arguments}
-use Rattle.pdb_documents.specs.Ids.{method_id, scope, function_id, id_by_kind}
-use Rattle.pdb_documents.specs.Methods.{plain_this, this_by_target, this_by_type, this_of, arguments_behind}
-use Rattle.pdb_documents.specs.Methods.{method_list, on_list}
-use Rattle.pdb_documents.specs.Plans.{Index, OfType, Plan, Done, Later, Seq, Buffered, Catch, ◌▸◌, written}
-use Rattle.pdb_documents.specs.Plans.{refusal, note_or_refusal, on_read, on_printed, met_before}
-use Rattle.pdb_documents.specs.Rules.{chain_end, behind_modifier, behind_pointer, element, modified, by_kind}
-use Rattle.pdb_documents.specs.Signatures.{signature_by_type, signature}
-use Rattle.pdb_documents.specs.PrintInputs.{PrintInputs}
+use Rattle.pdb_type_texts.specs.declared.attributes.Attribute.{Attribute}
+use Rattle.pdb_type_texts.specs.declared.attributes.Predecessor.TheVariants.{Opening}
+use Rattle.pdb_type_texts.specs.declared.tasks.MethodForm.{MethodForm}
+use Rattle.pdb_type_texts.specs.Attributes.{attributes_text}
+use Rattle.pdb_type_texts.specs.Documents.{Document, TypeNotFound, OfError, run}
+use Rattle.pdb_type_texts.specs.Documents as document
+use Rattle.pdb_type_texts.specs.FlagTests.{without_arguments, without_return_type}
+use Rattle.pdb_type_texts.specs.Wording.{comma, function_name, dimensions_text}
+use Rattle.pdb_type_texts.specs.Functions.{unless_left_out, returned, further_types, types_between, function_arguments}
+use Rattle.pdb_type_texts.specs.Ids.{method_id, scope, function_id, id_by_kind}
+use Rattle.pdb_type_texts.specs.Methods.{plain_this, this_by_target, this_by_type, this_of, arguments_behind}
+use Rattle.pdb_type_texts.specs.Methods.{method_list, on_list}
+use Rattle.pdb_type_texts.specs.Plans.{Index, OfType, Plan, Done, Later, Seq, Buffered, Catch, ◌▸◌, written}
+use Rattle.pdb_type_texts.specs.Plans.{refusal, note_or_refusal, on_read, on_printed, met_before}
+use Rattle.pdb_type_texts.specs.Rules.{chain_end, behind_modifier, behind_pointer, element, modified, by_kind}
+use Rattle.pdb_type_texts.specs.Signatures.{signature_by_type, signature}
+use Rattle.pdb_type_texts.specs.PrintInputs.{PrintInputs}
 use Rattle.pdb_laws.proofs.ReadLemmas.{HasReadErrors, IsGoodReadError, IsGoodReading, AreGoodPrintInputs, reads_then}
 
 -- besides errors of reading, these of the types of functions are among them

@@ -28,16 +28,16 @@ use Rattle.pdb_errors.specs.Errors.{ErrorView, Plain, NoModuleNamed}
 use Rattle.pdb_records.specs.Names.{lossy}
 use Rattle.std.specs.Str.{str_to_ascii_lowercase}
 use Rattle.pdb_types.specs.ModuleNames.{last_position_from, is_named}
-use Rattle.pdb_types.specs.Items.{first_item}
+use Rattle.pdb_types.specs.ItemMap.{first_item}
 use Rattle.pdb_errors.specs.Outcomes.{and_then, streamed}
-use Rattle.pdb_types.specs.Reading.{said, entry, reading}
+use Rattle.pdb_types.specs.ItemReading.{said, entry, reading}
 use Rattle.pdb_types.specs.Resolution.{provided_info, info_of, module_info, imports, exports, unbroken}
 use Rattle.pdb_types.specs.Resolution.{answered, texts, found_text, found_module, module_named, module_under}
 use Rattle.pdb_types.specs.Resolution.{found_export, export_of, import_target, across, resolved}
 use Rattle.pdb_types.specs.TypeInputs.{LinkInputs}
 use Rattle.pdb_types.specs.TypeSizes.{read_type}
 use Rattle.pdb_types.specs.ReadError.{ReadErrorView, Missing, Unimplemented, Refused, Broken, read_error_view_by}
-use Rattle.pdb_documents.specs.PrintInputs.{PrintInputs, type_at, id_at, print_inputs_of}
+use Rattle.pdb_type_texts.specs.PrintInputs.{PrintInputs, type_at, id_at, print_inputs_of}
 
 -- errors of the records, and of indices that lead to other modules, are among these
 pub record HasReadErrors (Good : ErrorView → Type 0) : Type 0 where

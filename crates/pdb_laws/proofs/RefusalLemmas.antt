@@ -3,12 +3,12 @@ use Rattle.std.proofs.Common.{◌≡◌, ◌∙◌, ℕ, Option, Some, None, ref
 use Rattle.pdb_errors.specs.declared.error.Error.TheVariants.{CircularTypeDefinition}
 use Rattle.pdb_errors.specs.Errors.{ErrorView, Plain}
 use Rattle.pdb_types.specs.FailedParts.{Parts}
-use Rattle.pdb_documents.specs.Documents.{Document, Failure, failure_error, TypeNotFound, OfError, run}
-use Rattle.pdb_documents.specs.Documents as document
-use Rattle.pdb_documents.specs.Plans.{Plan}
-use Rattle.pdb_documents.specs.Rules.{rule}
-use Rattle.pdb_documents.specs.Unfolding.{Unfolds, done, later, seq, buffered, catch}
-use Rattle.pdb_documents.specs.PrintInputs.{PrintInputs}
+use Rattle.pdb_type_texts.specs.Documents.{Document, PrintError, failure_error, TypeNotFound, OfError, run}
+use Rattle.pdb_type_texts.specs.Documents as document
+use Rattle.pdb_type_texts.specs.Plans.{Plan}
+use Rattle.pdb_type_texts.specs.Rules.{rule}
+use Rattle.pdb_type_texts.specs.Unfolding.{Unfolds, done, later, seq, buffered, catch}
+use Rattle.pdb_type_texts.specs.PrintInputs.{PrintInputs}
 use Rattle.pdb_laws.specs.PrintErrors.{IsPrintError}
 use Rattle.pdb_laws.proofs.ReadLemmas.{AreGoodPrintInputs}
 use Rattle.pdb_laws.proofs.PlanLemmas.{HasPrintErrors, IsGoodDocument, IsGoodPlan}
@@ -39,7 +39,7 @@ good_document Good has circles w reads (seq {a = a} {b = b} x y) plan =
     (λ h. good_document Good has circles w reads x plan.0 failed e h)
     (λ h. good_document Good has circles w reads y plan.1 (run a failed).failed e h) where
       by_fault : (failed : Parts) (e : ErrorView) → (run (document.Seq a b) failed).fault ≡ Some (OfError e)
-          → (fault : Option Failure) → (run a failed).fault ≡ fault
+          → (fault : Option PrintError) → (run a failed).fault ≡ fault
           → ((run a failed).fault ≡ Some (OfError e) → Good e)
           → ((run b (run a failed).failed).fault ≡ Some (OfError e) → Good e) → Good e
       by_fault failed e is None was first second = second (rw was at is)
@@ -50,7 +50,7 @@ good_document Good has circles w reads
     (λ h. good_document Good has circles w reads x plan failed e h) where
       by_fault : (failed : Parts) (e : ErrorView)
           → (run (document.Buffered a after_sigil after_other) failed).fault ≡ Some (OfError e)
-          → (fault : Option Failure) → (run a failed).fault ≡ fault
+          → (fault : Option PrintError) → (run a failed).fault ≡ fault
           → ((run a failed).fault ≡ Some (OfError e) → Good e) → Good e
       by_fault failed e is None was inner = let h = rw was at is in absurd (cc)
       by_fault failed e is (Some f) was inner = inner (was ∙ (rw was at is))
@@ -58,7 +58,7 @@ good_document Good has circles w reads (catch {a = a} x) plan =
     λ failed e is. by_fault failed e is (run a failed).fault refl
     (λ h. good_document Good has circles w reads x plan failed e h) where
       by_fault : (failed : Parts) (e : ErrorView) → (run (document.Catch a) failed).fault ≡ Some (OfError e)
-          → (fault : Option Failure) → (run a failed).fault ≡ fault
+          → (fault : Option PrintError) → (run a failed).fault ≡ fault
           → ((run a failed).fault ≡ Some (OfError e) → Good e) → Good e
       by_fault failed e is None was inner = let h = rw was at is in absurd (cc)
       by_fault failed e is (Some (TypeNotFound i)) was inner = let h = rw was at is in absurd (cc)
@@ -84,7 +84,7 @@ print_errors = record {
 
 -- a plan's failure is answered by one of them
 pub refused_for : (w : PrintInputs) → AreGoodPrintInputs IsPrintError w → {p : Plan} {d : Document} → Unfolds w p d
-    → IsGoodPlan IsPrintError p → (failed : Parts) (failure : Failure) → (run d failed).fault ≡ Some failure
+    → IsGoodPlan IsPrintError p → (failed : Parts) (failure : PrintError) → (run d failed).fault ≡ Some failure
     → IsPrintError (failure_error failure)
 refused_for w reads u plan failed (TypeNotFound index) is = tt
 refused_for w reads u plan failed (OfError e) is =

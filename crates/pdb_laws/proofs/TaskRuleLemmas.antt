@@ -6,13 +6,13 @@ use Rattle.std.specs.Ordering.{nat_cmp}
 use Rattle.pdb_records.specs.declared.types.TypeData.{TypeData}
 use Rattle.pdb_errors.specs.Errors.{ErrorView}
 use Rattle.pdb_types.specs.ReadError.{ReadErrorView}
-use Rattle.pdb_documents.specs.Flags.{without_arguments}
-use Rattle.pdb_documents.specs.Ids.{id_by_kind}
-use Rattle.pdb_documents.specs.Methods.{on_list}
-use Rattle.pdb_documents.specs.Plans.{Task, Index, OfType, MethodArguments, Chain, BehindModifier, Modified, Elements}
-use Rattle.pdb_documents.specs.Plans.{Id, Plan, Later, circular, is_among, opening}
-use Rattle.pdb_documents.specs.Rules.{behind_modifier, behind_pointer, element, modified, rule}
-use Rattle.pdb_documents.specs.PrintInputs.{PrintInputs}
+use Rattle.pdb_type_texts.specs.FlagTests.{without_arguments}
+use Rattle.pdb_type_texts.specs.Ids.{id_by_kind}
+use Rattle.pdb_type_texts.specs.Methods.{on_list}
+use Rattle.pdb_type_texts.specs.Plans.{Task, Index, OfType, MethodArguments, Chain, BehindModifier, Modified, Elements}
+use Rattle.pdb_type_texts.specs.Plans.{Id, Plan, Later, circular, is_among, opening}
+use Rattle.pdb_type_texts.specs.Rules.{behind_modifier, behind_pointer, element, modified, rule}
+use Rattle.pdb_type_texts.specs.PrintInputs.{PrintInputs}
 use Rattle.pdb_laws.specs.Circles.{Repeats}
 use Rattle.pdb_laws.proofs.ReadLemmas.{AreGoodPrintInputs}
 use Rattle.pdb_laws.proofs.PlanLemmas.{HasPrintErrors, IsGoodPlan, good_text, good_note, good_on_read, good_on_printed}

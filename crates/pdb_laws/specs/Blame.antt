@@ -3,12 +3,12 @@ use Rattle.std.specs.Prelude.{Option, Some, None, Result, Ok, Err}
 use Rattle.pdb_records.specs.declared.modules.ModuleInfo.{ModuleInfo}
 use Rattle.pdb_errors.specs.declared.error.Error.{Error}
 use Rattle.pdb_errors.specs.Outcomes.{and_then}
-use Rattle.pdb_functions.specs.FoundFunctions.{FoundFunction, function_start}
+use Rattle.pdb_functions.specs.FunctionMatches.{FunctionMatch, function_start}
 use Rattle.pdb_frames.specs.declared.code_parts.CodePart.{CodePart}
 use Rattle.pdb_frames.specs.declared.code_parts.CodePart.TheVariants as part
 use Rattle.pdb_frames.specs.ExtendedInfo.{extended_info}
 use Rattle.pdb_frames.specs.Lines.{function_rows}
-use Rattle.pdb_frames.specs.Origins.{function_ranges}
+use Rattle.pdb_frames.specs.CodeLocations.{function_ranges}
 
 -- the error in place of an answer
 abbrev pub error_of : {A : Type 0} → Result A Error → Option Error
@@ -17,7 +17,7 @@ error_of (Err e) = Some e
 
 -- the error of a part by itself: of what is known of the module's code; and after that, of the function's line rows
 -- and of its inline ranges
-abbrev pub own_error : ModuleInfo → FoundFunction → CodePart → Option Error
+abbrev pub own_error : ModuleInfo → FunctionMatch → CodePart → Option Error
 own_error info found (part.ExtendedInfo m) = error_of (extended_info info)
 own_error info found (part.Lines m start) =
     error_of (and_then (extended_info info) (λ known. function_rows known.line_program (function_start found)))

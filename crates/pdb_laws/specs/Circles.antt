@@ -4,14 +4,14 @@ use Rattle.pdb_records.specs.declared.types.TypeData.{TypeData}
 use Rattle.pdb_errors.specs.declared.error.Error.TheVariants.{CircularTypeDefinition}
 use Rattle.pdb_errors.specs.Errors.{Plain}
 use Rattle.pdb_types.specs.FailedParts.{Parts}
-use Rattle.pdb_documents.specs.Documents.{Document, OfError, run}
-use Rattle.pdb_documents.specs.Flags.{without_arguments}
-use Rattle.pdb_documents.specs.PrintInputs.{PrintInputs}
-use Rattle.pdb_documents.specs.Plans.{Task, Index, OfType, MethodArguments, Chain, BehindModifier}
-use Rattle.pdb_documents.specs.Plans.{Modified, Elements, Id, Plan, Later, Seq, Buffered, Catch, is_among}
-use Rattle.pdb_documents.specs.Printed.{document_of}
-use Rattle.pdb_documents.specs.Rules.{rule}
-use Rattle.pdb_documents.specs.Unfolding.{Unfolds}
+use Rattle.pdb_type_texts.specs.Documents.{Document, OfError, run}
+use Rattle.pdb_type_texts.specs.FlagTests.{without_arguments}
+use Rattle.pdb_type_texts.specs.PrintInputs.{PrintInputs}
+use Rattle.pdb_type_texts.specs.Plans.{Task, Index, OfType, MethodArguments, Chain, BehindModifier}
+use Rattle.pdb_type_texts.specs.Plans.{Modified, Elements, Id, Plan, Later, Seq, Buffered, Catch, is_among}
+use Rattle.pdb_type_texts.specs.Printed.{document_of}
+use Rattle.pdb_type_texts.specs.Rules.{rule}
+use Rattle.pdb_type_texts.specs.Unfolding.{Unfolds}
 
 -- a task opens this index while it is open: a type that can be read, a method's list of arguments, and the target of a
 -- pointer or of a modifier; or the index repeats: an element of an array among the elements before it, and a scope

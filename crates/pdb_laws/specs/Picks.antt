@@ -4,7 +4,7 @@ use Rattle.pdb_tables.specs.Pick.{IsPick, IsPicked}
 use Rattle.pdb_inline.specs.declared.inline_ranges.InlineRange.{InlineRange}
 use Rattle.pdb_inline.specs.InlineStacks.{lies_over}
 
--- the first of these is picked at a depth, the next at the depth below it, and so on; and behind the last of them no
+-- the first of these is picked at a depth, the next at the depth below it, and so on; and after the last of them no
 -- range lies over the number at the next depth
 abbrev pub ArePickedByDepth : List InlineRange → ℕ → ℕ → List InlineRange → Type 0
 ArePickedByDepth ranges x depth [] = IsPicked (lies_over depth x) (λ range. range.start_offset) ranges None

@@ -3,17 +3,17 @@
 ghost use Rattle.std.specs.Prelude.{◌≡◌, ℕ, Ok, Err, Some, None};
 ghost use Rattle.pdb_records.specs.declared.modules.ModuleInfo.{ModuleInfo};
 ghost use Rattle.pdb_errors.specs.declared.error.Error.{Error};
-ghost use Rattle.pdb_functions.specs.FoundFunctions.{FoundFunction};
+ghost use Rattle.pdb_functions.specs.FunctionMatches.{FunctionMatch};
 ghost use Rattle.pdb_frames.specs.declared.code_parts.CodePart.{CodePart};
 ghost use Rattle.pdb_frames.specs.CodeParts.{part_to_blame};
-ghost use Rattle.pdb_frames.specs.Origins.{Origin, origin};
+ghost use Rattle.pdb_frames.specs.CodeLocations.{CodeLocation, code_location};
 ghost use Rattle.pdb_laws.specs.Blame.{own_error};
 
 /// Where it is refused where the code at an offset of a function comes from, the part that is to blame has
 /// that error by itself. Where it is answered, no part has an error.
 pub fn the_part_to_blame_has_the_error()
-    ensures blamed { (info : ModuleInfo) (found : FoundFunction) (offset : ℕ) (error : Error)
-        → origin info found offset ≡ Err error → own_error info found (part_to_blame info found) ≡ Some error }
-    ensures sound { (info : ModuleInfo) (found : FoundFunction) (offset : ℕ) (answered : Origin) (part : CodePart)
-        → origin info found offset ≡ Ok answered → own_error info found part ≡ None }
+    ensures blamed { (info : ModuleInfo) (found : FunctionMatch) (offset : ℕ) (error : Error)
+        → code_location info found offset ≡ Err error → own_error info found (part_to_blame info found) ≡ Some error }
+    ensures sound { (info : ModuleInfo) (found : FunctionMatch) (offset : ℕ) (answered : CodeLocation) (part : CodePart)
+        → code_location info found offset ≡ Ok answered → own_error info found part ≡ None }
 {}

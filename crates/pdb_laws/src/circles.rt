@@ -13,9 +13,9 @@ ghost use Rattle.pdb_records.specs.declared.ids.IdData.{IdData};
 ghost use Rattle.pdb_types.specs.TypeInputs.{LinkInputs};
 ghost use Rattle.pdb_types.specs.declared.flags.TypeFormatterFlags.{TypeFormatterFlags};
 ghost use Rattle.pdb_types.specs.FailedParts.{Parts};
-ghost use Rattle.pdb_documents.specs.PrintInputs.{PrintInputs, print_inputs_of};
-ghost use Rattle.pdb_documents.specs.Ids.{id_of_index};
-ghost use Rattle.pdb_documents.specs.Signatures.{signature, type_of_index};
+ghost use Rattle.pdb_type_texts.specs.PrintInputs.{PrintInputs, print_inputs_of};
+ghost use Rattle.pdb_type_texts.specs.Ids.{id_of_index};
+ghost use Rattle.pdb_type_texts.specs.Signatures.{signature, type_of_index};
 ghost use Rattle.pdb_laws.specs.Circles.{MeetsCircle, IsRefusedAsCircular};
 
 /// Printing the type of an index, while others are open, is refused as circular exactly where it meets a

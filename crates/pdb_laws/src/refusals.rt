@@ -12,11 +12,11 @@ ghost use Rattle.pdb_records.specs.declared.ids.IdData.{IdData};
 ghost use Rattle.pdb_types.specs.TypeInputs.{LinkInputs};
 ghost use Rattle.pdb_types.specs.declared.flags.TypeFormatterFlags.{TypeFormatterFlags};
 ghost use Rattle.pdb_types.specs.FailedParts.{Parts};
-ghost use Rattle.pdb_documents.specs.Documents.{Failure, failure_error, run};
-ghost use Rattle.pdb_documents.specs.Ids.{id_of_index};
-ghost use Rattle.pdb_documents.specs.Printed.{document_of};
-ghost use Rattle.pdb_documents.specs.Signatures.{signature};
-ghost use Rattle.pdb_documents.specs.PrintInputs.{print_inputs_of};
+ghost use Rattle.pdb_type_texts.specs.Documents.{PrintError, failure_error, run};
+ghost use Rattle.pdb_type_texts.specs.Ids.{id_of_index};
+ghost use Rattle.pdb_type_texts.specs.Printed.{document_of};
+ghost use Rattle.pdb_type_texts.specs.Signatures.{signature};
+ghost use Rattle.pdb_type_texts.specs.PrintInputs.{print_inputs_of};
 ghost use Rattle.pdb_laws.specs.PrintErrors.{IsPrintError};
 
 /// The signature of a function is refused for an error of the records, of an index that leads to another
@@ -25,7 +25,7 @@ pub fn signatures_are_refused_for()
     ensures { (link_inputs : LinkInputs) (types : Read (Item TypeIndex TypeData)) (ids : Read (Item IdIndex IdData))
         (pointer : ℕ) (flags : TypeFormatterFlags) (module_index : ℕ) (name : List ℕ) (index : ℕ)
         → let w = print_inputs_of link_inputs types ids pointer flags module_index in
-        (failed : Parts) (failure : Failure)
+        (failed : Parts) (failure : PrintError)
         → (run (document_of w (signature w name index)) failed).fault ≡ Some failure
         → IsPrintError (failure_error failure) }
 {}
@@ -35,6 +35,6 @@ pub fn ids_are_refused_for()
     ensures { (link_inputs : LinkInputs) (types : Read (Item TypeIndex TypeData)) (ids : Read (Item IdIndex IdData))
         (pointer : ℕ) (flags : TypeFormatterFlags) (module_index : ℕ) (index : ℕ)
         → let w = print_inputs_of link_inputs types ids pointer flags module_index in
-        (failed : Parts) (failure : Failure) → (run (document_of w (id_of_index index)) failed).fault ≡ Some failure
+        (failed : Parts) (failure : PrintError) → (run (document_of w (id_of_index index)) failed).fault ≡ Some failure
         → IsPrintError (failure_error failure) }
 {}

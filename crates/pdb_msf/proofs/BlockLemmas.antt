@@ -4,7 +4,7 @@ use Rattle.std.proofs.Common.{Option, Some, None, IfSome, arith, append_assoc}
 use Rattle.std.proofs.lemmas.List.{drop_more}
 use Rattle.pdb_msf.proofs.KnownLemmas.{both_hold}
 use Rattle.pdb_msf.proofs.StreamLemmas.{run_longer}
-use Rattle.pdb_msf.specs.Streams.{in_order}
+use Rattle.pdb_msf.specs.Streams.{bytes_of_blocks}
 
 -- a block with a number of four bytes starts below the product of both limits
 pub start_below : (number size : ℕ) → number < 2 ^ 32 → size ≤ 32768 → number * size ≤ 2 ^ 47
@@ -13,8 +13,8 @@ start_below number size few small = grind arith
 -- bytes, a run of the file that isn't read yet, and the blocks that are left are the bytes before and all blocks
 abbrev pub Pending : Option (List ℕ) → ℕ → List ℕ → List ℕ → ℕ → List ℕ → ℕ → ℕ → Type 0
 Pending known size blocks before index bytes start count =
-    IfSome known (λ file. bytes ++ (take count (drop start file) ++ in_order size file (drop index blocks))
-    ≡ before ++ in_order size file blocks)
+    IfSome known (λ file. bytes ++ (take count (drop start file) ++ bytes_of_blocks size file (drop index blocks))
+    ≡ before ++ bytes_of_blocks size file blocks)
 
 -- where the next block stands behind the run, the run with the block is pending
 pub longer : (known : Option (List ℕ)) (size : ℕ) (blocks before : List ℕ) (index : ℕ) (bytes : List ℕ)

@@ -2,9 +2,9 @@
 use Rattle.std.proofs.Common.{◌≡◌, ℕ, List, [], ◌∷◌, ◌++◌, take, refl}
 use Rattle.std.specs.Prelude.{Ok, Err, codes}
 use Rattle.std.proofs.Math.ListN.{replicate}
-use Rattle.pdb_msf.specs.declared.container_fault.ContainerFault.TheVariants as fault
+use Rattle.pdb_msf.specs.declared.container_error.ContainerError.TheVariants as fault
 use Rattle.pdb_msf.specs.declared.faults.TheConstants.{BLOCK_OUTSIDE, CUT, NO_STREAM}
-use Rattle.pdb_msf.specs.ContainerFault.{other_fault}
+use Rattle.pdb_msf.specs.ContainerError.{other_fault}
 use Rattle.pdb_msf.specs.Directory.{block_map, directory, sizes_in}
 use Rattle.pdb_msf.specs.Msf.{Msf, container, numbers_place, size_of, stream_of}
 use Rattle.pdb_msf.specs.NumberLists.{listed}

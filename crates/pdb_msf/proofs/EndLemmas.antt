@@ -5,11 +5,11 @@ use Rattle.std.proofs.lemmas.Grind.{common_steps}
 use Rattle.std.proofs.lemmas.List.{length-replicate}
 use Rattle.std.proofs.lemmas.Nat.{div_below}
 use Rattle.pdb_msf.proofs.ExcerptLemmas.{first_inside}
-use Rattle.pdb_msf.specs.StreamMap.{open_fault}
+use Rattle.pdb_msf.specs.MsfLayout.{open_error}
 use Rattle.pdb_msf.specs.Streams.{all_inside, blocks_end}
-use Rattle.pdb_msf.specs.declared.source_fault.OpenFault.TheVariants as opened
-use Rattle.pdb_msf.specs.declared.source_fault.SourceFault.{SourceFault}
-use Rattle.pdb_msf.specs.declared.source_fault.SourceFault.TheVariants as source
+use Rattle.pdb_msf.specs.declared.source_error.OpenError.TheVariants as opened
+use Rattle.pdb_msf.specs.declared.source_error.SourceError.{SourceError}
+use Rattle.pdb_msf.specs.declared.source_error.SourceError.TheVariants as source
 
 -- a block of a list ends no later than the last of them
 pub block_ends : (size : ℕ) (numbers : List ℕ) (index : ℕ) → index < length numbers
@@ -74,6 +74,6 @@ part_ends size file_length more first numbers part inside part_is =
     omega (arith, few, rest, all, same)
 
 -- a file can't be opened for a range that can't be read only where reading was refused for one
-pub opened_unreadable : (fault : SourceFault) → open_fault fault ≡ opened.Unreadable → fault ≡ source.Unreadable
+pub opened_unreadable : (fault : SourceError) → open_error fault ≡ opened.Unreadable → fault ≡ source.Unreadable
 opened_unreadable source.Unreadable is = refl
 opened_unreadable source.OutOfMemory is = cc

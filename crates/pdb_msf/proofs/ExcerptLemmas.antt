@@ -13,9 +13,9 @@ use Rattle.byteorder.specs.Endian.{little_bytes}
 use Rattle.byteorder.specs.Numbers.{little_from-take, little_number-reads_back}
 use Rattle.pdb_msf.specs.declared.faults.TheConstants.{NO_STREAM}
 use Rattle.pdb_msf.specs.NumberLists.{listed, number, numbers}
-use Rattle.pdb_msf.specs.StreamMap.{IsExcerptOf, MappedFile, following, stream_at, with_bytes}
+use Rattle.pdb_msf.specs.MsfLayout.{IsSubsetOf, MappedFile, following, stream_at, with_bytes}
 use Rattle.pdb_msf.proofs.SizeLemmas.{length_in_order}
-use Rattle.pdb_msf.specs.Streams.{all_inside, in_order, stream_inside}
+use Rattle.pdb_msf.specs.Streams.{all_inside, bytes_of_blocks, stream_inside}
 
 -- a number that is written stands in the bytes
 written : (x : ℕ) (rest : List ℕ) → x < 2 ^ 32 → number (little_bytes 4 x ++ rest) ≡ x
@@ -29,7 +29,7 @@ first_inside size number file blocks inside = (grind (arith, common_steps), grin
 
 -- blocks that follow one another are one stretch of the file
 one_stretch : (size first count : ℕ) (file : List ℕ)
-    → in_order size file (following first count) ≡ take (count * size) (drop (first * size) file)
+    → bytes_of_blocks size file (following first count) ≡ take (count * size) (drop (first * size) file)
 one_stretch size first zero file = grind (arith, common_steps)
 one_stretch size first (suc count) file =
     let more : suc count * size ≡ size + count * size = grind arith in
@@ -89,12 +89,12 @@ refused size first place stream_length file blocks (number_0 ∷ held) bytes out
 -- a stream whose blocks were appended and numbered is the file's
 pub placed : (size first place stream_length : ℕ) (file before after held bytes : List ℕ)
     → all_inside size file held ≡ true → length before ≡ first * size → 4 * length held ≤ length bytes - place
-    → after ≡ before ++ in_order size file held
+    → after ≡ before ++ bytes_of_blocks size file held
     → numbers (length held) (drop place bytes) ≡ following first (length held)
     → stream_at size after bytes place (length held) stream_length ≡ stream_inside size file stream_length held
 unfolding stream_inside
 placed size first place stream_length file before after held bytes inside long room read numbered =
-    let blocks : List ℕ = in_order size file held in
+    let blocks : List ℕ = bytes_of_blocks size file held in
     let bytes_long : length blocks ≡ length held * size = length_in_order size file held inside in
     let both : (first + length held) * size ≡ first * size + length held * size = grind arith in
     let enough : (first + length held) * size ≤ length (before ++ blocks) = simp length-append (omega arith) in
@@ -121,7 +121,7 @@ unfolding listed
 room_of count bytes found is = grind (arith, common_steps)
 
 -- a stream that isn't there is neither in the excerpt nor in the file
-pub both_absent : (excerpt : Msf) (mapped : MappedFile) (number : ℕ) (file : List ℕ) → IsExcerptOf excerpt mapped
+pub both_absent : (excerpt : Msf) (mapped : MappedFile) (number : ℕ) (file : List ℕ) → IsSubsetOf excerpt mapped
     → size_of (with_bytes file mapped) number ≡ Err NO_STREAM
     → stream_of excerpt number ≡ stream_of (with_bytes file mapped) number
 unfolding stream_of size_of
@@ -129,7 +129,7 @@ both_absent excerpt mapped number file is absent = rw (is.0, absent) refl
 
 -- a stream whose numbers can't be listed in the file's directory can't be read of the excerpt either
 pub both_cut : (excerpt : Msf) (mapped : MappedFile) (number size place : ℕ) (file : List ℕ) (error : StreamError)
-    → IsExcerptOf excerpt mapped → size_of (with_bytes file mapped) number ≡ Ok size
+    → IsSubsetOf excerpt mapped → size_of (with_bytes file mapped) number ≡ Ok size
     → place ≡ numbers_place (with_bytes file mapped) number
     → listed (div_ceil size mapped.block_size) (drop place mapped.directory) ≡ Err error
     → stream_of excerpt number ≡ stream_of (with_bytes file mapped) number
@@ -143,7 +143,7 @@ both_cut excerpt mapped number size place file error is sized at cut =
 
 -- a stream whose blocks were added is in the excerpt what it is in the file
 pub added : (excerpt : Msf) (mapped : MappedFile) (number size place : ℕ) (file held before after : List ℕ)
-    → IsExcerptOf excerpt mapped → excerpt.directory ≡ after → length after ≡ length before
+    → IsSubsetOf excerpt mapped → excerpt.directory ≡ after → length after ≡ length before
     → size_of (with_bytes file mapped) number ≡ Ok size → place ≡ numbers_place (with_bytes file mapped) number
     → listed (div_ceil size mapped.block_size) (drop place mapped.directory) ≡ Ok held
     → length held ≡ div_ceil size mapped.block_size

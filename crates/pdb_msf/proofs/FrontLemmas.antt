@@ -9,11 +9,11 @@ use Rattle.byteorder.specs.Endian.{little_number}
 use Rattle.pdb_msf.proofs.KnownLemmas.{if_file}
 use Rattle.pdb_msf.proofs.NumberLemmas.{numbers_of_taken}
 use Rattle.pdb_msf.specs.declared.faults.TheConstants.{CUT}
-use Rattle.pdb_msf.specs.declared.container_fault.ContainerFault.TheVariants as fault
-use Rattle.pdb_msf.specs.ContainerFault.{begins, other_fault}
+use Rattle.pdb_msf.specs.declared.container_error.ContainerError.TheVariants as fault
+use Rattle.pdb_msf.specs.ContainerError.{begins, other_fault}
 use Rattle.pdb_msf.specs.Faults.{cut_short}
 use Rattle.pdb_msf.specs.NumberLists.{listed, number}
-use Rattle.pdb_msf.specs.StreamMap.{IfFile}
+use Rattle.pdb_msf.specs.MsfLayout.{IfFile}
 use Rattle.pdb_msf.specs.Superblock.{is_msf, magic, superblock}
 
 -- a file begins with bytes that are so few if its first bytes do

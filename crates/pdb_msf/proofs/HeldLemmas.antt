@@ -11,10 +11,10 @@ use Rattle.byteorder.specs.Numbers.{length-bytes_low_first}
 use borrow.Rule.Slice.PartMut.{mid_of, post_of, put_mid}
 use Rattle.pdb_msf.proofs.ExcerptLemmas.{first_inside}
 use Rattle.pdb_msf.proofs.NumberLemmas.{numbers_of_taken}
-use Rattle.pdb_msf.specs.Excerpts.{HoldsBlocks, IsHeld, no_block, number_at}
+use Rattle.pdb_msf.specs.StreamSubsets.{HoldsBlocks, IsHeld, no_block, number_at}
 use Rattle.pdb_msf.specs.NumberLists.{number, numbers}
-use Rattle.pdb_msf.specs.StreamMap.{following}
-use Rattle.pdb_msf.specs.Streams.{all_inside, block, in_order, stream_inside}
+use Rattle.pdb_msf.specs.MsfLayout.{following}
+use Rattle.pdb_msf.specs.Streams.{all_inside, block, bytes_of_blocks, stream_inside}
 
 -- bytes that begin with others are as many at least
 pub longer : (before after : List ℕ) → take (length before) after ≡ before → length before ≤ length after
@@ -42,7 +42,7 @@ same_block size number before after begins within =
 
 -- blocks of the bytes before are the same in bytes that begin with those
 same_in_order : (size : ℕ) (before after blocks : List ℕ) → take (length before) after ≡ before
-    → all_inside size before blocks ≡ true → in_order size after blocks ≡ in_order size before blocks
+    → all_inside size before blocks ≡ true → bytes_of_blocks size after blocks ≡ bytes_of_blocks size before blocks
 same_in_order size before after [] begins inside = refl
 same_in_order size before after (number ∷ blocks) begins inside =
     let both = first_inside size number before blocks inside in

@@ -1,6 +1,6 @@
 -- What follows of a value, as the bytes of a file, where it is known.
 use Rattle.std.proofs.Common.{◌≡◌, ℕ, List, length, Option, Some, None, IfSome, refl, subst}
-use Rattle.pdb_msf.specs.StreamMap.{IfFile}
+use Rattle.pdb_msf.specs.MsfLayout.{IfFile}
 
 -- two facts on a value, the second where the same is known again, give where it is known a third that they imply
 pub both_hold : {A : Type 0} (P Q R : A → Type 0) (known here : Option A) → here ≡ known → IfSome known P

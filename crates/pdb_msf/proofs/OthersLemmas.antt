@@ -12,10 +12,10 @@ use Rattle.pdb_msf.proofs.ExcerptLemmas.{listed_all}
 use Rattle.pdb_msf.proofs.FrontLemmas.{listed_of_few}
 use Rattle.pdb_msf.proofs.HeldLemmas.{each_held, numbers_before, numbers_behind, same_inside}
 use Rattle.pdb_msf.specs.Directory.{block_count}
-use Rattle.pdb_msf.specs.Excerpts.{HoldsBlocks, no_block}
+use Rattle.pdb_msf.specs.StreamSubsets.{HoldsBlocks, no_block}
 use Rattle.pdb_msf.specs.Msf.{Msf, numbers_place, present, size_of, stream_of}
 use Rattle.pdb_msf.specs.NumberLists.{numbers}
-use Rattle.pdb_msf.specs.StreamMap.{IsExcerptOf, MappedFile, stream_at, with_bytes}
+use Rattle.pdb_msf.specs.MsfLayout.{IsSubsetOf, MappedFile, stream_at, with_bytes}
 use Rattle.pdb_msf.specs.Streams.{all_inside}
 
 -- the blocks before a stream, and its own, are among those before a later stream
@@ -136,7 +136,7 @@ held_after size front before after own lent written stored msf number place borr
 
 -- the streams of an excerpt stay as they were where another one's blocks are appended and numbered
 pub others_kept : (before old after : Msf) (mapped : MappedFile) (number other size place count front : ℕ)
-    (lent written : List ℕ) → before ≡ old → IsExcerptOf old mapped → after.sizes ≡ before.sizes
+    (lent written : List ℕ) → before ≡ old → IsSubsetOf old mapped → after.sizes ≡ before.sizes
     → after.block_size ≡ before.block_size → after.directory ≡ written → lent ≡ before.directory
     → length written ≡ length lent → front ≡ 1 + length before.sizes
     → HoldsBlocks before.block_size before.file before.directory front
@@ -148,7 +148,7 @@ pub others_kept : (before old after : Msf) (mapped : MappedFile) (number other s
 unfolding size_of numbers_place
 others_kept before old after mapped number other size place count front lent written seen is sizes blocks back borrowed
     long front_is held now begins sized at_place counted same behind apart =
-    let was : IsExcerptOf before mapped = subst (λ msf. IsExcerptOf msf mapped) (sym seen) is in
+    let was : IsSubsetOf before mapped = subst (λ msf. IsSubsetOf msf mapped) (sym seen) is in
     let own : size_of before number ≡ Ok size = rw was.0 sized in
     let here : place ≡ numbers_place before number = rw (was.0, was.1) at_place in
     let many : count ≡ div_ceil size before.block_size = rw was.1 counted in

@@ -14,7 +14,7 @@ use Rattle.pdb_msf.proofs.ExcerptLemmas.{first_inside}
 use Rattle.pdb_msf.proofs.KnownLemmas.{both_hold}
 use Rattle.pdb_msf.proofs.SizeLemmas.{length_in_order}
 use Rattle.pdb_msf.specs.StreamBlocks.{BlockList, said_in, stream_in}
-use Rattle.pdb_msf.specs.Streams.{all_inside, block, in_order}
+use Rattle.pdb_msf.specs.Streams.{all_inside, block, bytes_of_blocks}
 
 -- a block that lies in the file has its size
 block_length : (size number : ℕ) (file : List ℕ) → number * size + size ≤ length file
@@ -23,7 +23,7 @@ block_length size number file inside = simp (length-take, length-drop) (omega ar
 
 -- the bytes of the first blocks, which lie in the file, are as many of all bytes
 first_blocks : (count size : ℕ) (file blocks : List ℕ) → all_inside size file blocks ≡ true
-    → in_order size file (take count blocks) ≡ take (count * size) (in_order size file blocks)
+    → bytes_of_blocks size file (take count blocks) ≡ take (count * size) (bytes_of_blocks size file blocks)
 first_blocks zero size file blocks inside = grind (arith, common_steps)
 first_blocks (suc count) size file [] inside = sym (take_all (suc count * size) [] (omega arith))
 first_blocks (suc count) size file (number ∷ blocks) inside =
@@ -47,11 +47,11 @@ taken_both count long bytes =
 -- the bytes of a block behind a place in it, and of so many blocks behind it, have so many from the place on
 joined : (count long size more : ℕ) (file bytes blocks : List ℕ) → all_inside size file blocks ≡ true
     → long ≤ length bytes → count ≤ min count long + more * size
-    → take count (take (min count long) bytes ++ in_order size file (take more blocks))
-    ≡ take count (take long bytes ++ in_order size file blocks)
+    → take count (take (min count long) bytes ++ bytes_of_blocks size file (take more blocks))
+    ≡ take count (take long bytes ++ bytes_of_blocks size file blocks)
 joined count long size more file bytes blocks inside there enough =
     let front : length (take long bytes) ≡ long = simp length-take (omega arith) in
-    let rest = in_order size file blocks in
+    let rest = bytes_of_blocks size file blocks in
     elim (cases_lt long count) [
       | inl above ↦
           let least : min count long ≡ long = omega arith in
@@ -61,7 +61,7 @@ joined count long size more file bytes blocks inside there enough =
       | inr few ↦
           let least : min count long ≡ count = omega arith in
           let all : length (take count bytes) ≡ count = simp length-take (omega arith) in
-          rw (least, take_at (take count bytes) (in_order size file (take more blocks)) count all)
+          rw (least, take_at (take count bytes) (bytes_of_blocks size file (take more blocks)) count all)
           (sym (take-append-le count (take long bytes) rest (omega arith) ∙ take-take count long bytes few))
     ]
 
@@ -77,8 +77,8 @@ behind_place size skipped number file within =
 from_place : (position size skipped count more : ℕ) (file blocks : List ℕ) → all_inside size file blocks ≡ true
     → skipped < size → position < length blocks → count ≤ min count (size - skipped) + more * size
     → take count (take (min count (size - skipped)) (drop (get_or blocks position 0 * size + skipped) file)
-    ++ in_order size file (take more (drop (suc position) blocks)))
-    ≡ take count (drop (position * size + skipped) (in_order size file blocks))
+    ++ bytes_of_blocks size file (take more (drop (suc position) blocks)))
+    ≡ take count (drop (position * size + skipped) (bytes_of_blocks size file blocks))
 from_place position size skipped count more file [] inside within there enough = absurd (omega arith)
 from_place zero size skipped count more file (number ∷ blocks) inside within there enough =
     let both = first_inside size number file blocks inside in
@@ -87,7 +87,7 @@ from_place zero size skipped count more file (number ∷ blocks) inside within t
     let left : size - skipped ≤ length (drop (number * size + skipped) file) = simp length-drop (omega arith) in
     rw (
       none,
-      drop-append-le skipped (block size file number) (in_order size file blocks) (omega arith),
+      drop-append-le skipped (block size file number) (bytes_of_blocks size file blocks) (omega arith),
       behind_place size skipped number file within,
     )
     (joined count (size - skipped) size more file (drop (number * size + skipped) file) blocks both.1 left enough)
@@ -108,11 +108,11 @@ range_in : (file : List ℕ) (blocks : BlockList) (place wanted count run more :
     → more ≡ div_ceil (count - run) blocks.block_size
     → bytes ≡ take run (drop (get_or blocks.numbers (place / blocks.block_size) 0 * blocks.block_size
     + place % blocks.block_size) file)
-    ++ in_order blocks.block_size file (take more (drop (place / blocks.block_size + 1) blocks.numbers))
+    ++ bytes_of_blocks blocks.block_size file (take more (drop (place / blocks.block_size + 1) blocks.numbers))
     → take count bytes ≡ take wanted (drop place (stream_in file blocks))
 range_in file blocks place wanted count run more bytes inside some enough counted any run_is more_is read =
     let size : ℕ = blocks.block_size in
-    let whole : List ℕ = in_order size file blocks.numbers in
+    let whole : List ℕ = bytes_of_blocks size file blocks.numbers in
     let position : place / size < length blocks.numbers
     = div_below place size (length blocks.numbers) some (omega arith) in
     let within : place % size < size = grind (arith, common_steps) in
@@ -153,7 +153,7 @@ pub range_of : (known here : Option (List ℕ)) (blocks : BlockList) (place want
     → more ≡ div_ceil (count - run) blocks.block_size
     → empty ≡ [] → here ≡ known
     → IfSome known (λ file. one ≡ empty ++ take run (drop (start + place % blocks.block_size) file))
-    → IfSome here (λ file. two ≡ one ++ in_order blocks.block_size file part)
+    → IfSome here (λ file. two ≡ one ++ bytes_of_blocks blocks.block_size file part)
     → three ≡ take count two
     → IfSome (said_in known blocks) (λ stream. three ≡ take wanted (drop place stream))
 range_of known here blocks place wanted count start run more numbers part empty one two three inside some enough same

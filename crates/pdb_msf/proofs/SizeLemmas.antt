@@ -8,7 +8,7 @@ use Rattle.pdb_msf.proofs.NumberLemmas.{number_count}
 use Rattle.pdb_msf.specs.Faults.{◌>>=◌}
 use Rattle.pdb_msf.specs.Msf.{Msf, numbers_place, size_of, stream_blocks, stream_of}
 use Rattle.pdb_msf.specs.NumberLists.{listed}
-use Rattle.pdb_msf.specs.Streams.{all_inside, in_order, stream_inside}
+use Rattle.pdb_msf.specs.Streams.{all_inside, bytes_of_blocks, stream_inside}
 
 -- where two meanings have a value, the first has one, and the second over it
 after : {A B : Type 0} (first : Result A StreamError) (next : A → Result B StreamError) (value : B)
@@ -18,10 +18,10 @@ after (Err error) next value is = cc
 
 -- so many blocks that lie in the file have so many bytes
 pub length_in_order : (size : ℕ) (file blocks : List ℕ) → all_inside size file blocks ≡ true
-    → length (in_order size file blocks) ≡ length blocks * size
+    → length (bytes_of_blocks size file blocks) ≡ length blocks * size
 length_in_order size file [] inside = grind (arith, common_steps)
 length_in_order size file (number ∷ blocks) inside =
-    let others : all_inside size file blocks ≡ true → length (in_order size file blocks) ≡ length blocks * size
+    let others : all_inside size file blocks ≡ true → length (bytes_of_blocks size file blocks) ≡ length blocks * size
     = length_in_order size file blocks in
     grind (arith, common_steps)
 

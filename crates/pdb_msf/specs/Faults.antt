@@ -5,8 +5,8 @@ use Rattle.pdb_msf.specs.declared.faults.Fault.{Fault}
 use Rattle.pdb_msf.specs.declared.faults.TheConstants.{APART, BAD_LENGTH, BAD_NUMBER, BLOCK_OUTSIDE, CUT, NO_STREAM}
 use Rattle.pdb_msf.specs.declared.faults.TheConstants.{POINTS_NOWHERE, REARRANGED, TOO_LONG, UNKNOWN_VERSION}
 use Rattle.pdb_msf.specs.declared.faults.Fault.TheVariants.{Broken, OutOfMemory}
-use Rattle.pdb_msf.specs.declared.container_fault.ContainerFault.{ContainerFault}
-use Rattle.pdb_msf.specs.declared.container_fault.ContainerFault.TheVariants as file
+use Rattle.pdb_msf.specs.declared.container_error.ContainerError.{ContainerError}
+use Rattle.pdb_msf.specs.declared.container_error.ContainerError.TheVariants as file
 
 infixl 10 ◌>>=◌
 -- the second meaning over the value of the first, or the first one's fault
@@ -15,17 +15,17 @@ abbrev pub ◌>>=◌ : {A B E : Type 0} → Result A E → (A → Result B E) �
 (Err fault) >>= next = Err fault
 
 -- a fault in the directory cuts the file short
-abbrev pub cut_short : {A : Type 0} → Result A StreamError → Result A ContainerFault
+abbrev pub cut_short : {A : Type 0} → Result A StreamError → Result A ContainerError
 cut_short (Ok value) = Ok value
 cut_short (Err error) = Err file.CutShort
 
 -- what is broken in the directory cuts the file short; out of memory stays out of memory
-abbrev pub fault_of : Fault → ContainerFault
+abbrev pub fault_of : Fault → ContainerError
 fault_of (Broken e) = file.CutShort
 fault_of OutOfMemory = file.OutOfMemory
 
 -- a fault is turned into the file's
-abbrev pub GivesFault : Fault → ContainerFault → Type 0
+abbrev pub GivesFault : Fault → ContainerError → Type 0
 GivesFault fault given = given ≡ fault_of fault
 
 -- a fault that a call answers is the defined one, unless there was no memory
@@ -45,7 +45,7 @@ part_of (Err (Broken error)) = Ok (Err error)
 part_of (Err OutOfMemory) = Err OutOfMemory
 
 -- opening answers what is defined, seen as it is there: the value, or the file's fault, unless there was no memory
-abbrev pub Opens : {X Y : Type 0} → (X → Y) → Result X ContainerFault → Result Y ContainerFault → Type 0
+abbrev pub Opens : {X Y : Type 0} → (X → Y) → Result X ContainerError → Result Y ContainerError → Type 0
 Opens seen (Ok answer) defined = defined ≡ Ok (seen answer)
 Opens seen (Err fault) defined = fault ≢ file.OutOfMemory → defined ≡ Err fault
 

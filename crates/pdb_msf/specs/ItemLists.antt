@@ -44,6 +44,6 @@ unless_broken None items rest = behind items rest
 unless_broken (Some fault) items rest = record { items = items; fault = Some fault }
 
 -- the items of several lists, one list after the other up to the first fault
-abbrev pub together : {A B : Type 0} → (B → Read A) → List B → Read A
-together items [] = nothing_read None
-together items (list ∷ rest) = unless_broken (items list).fault (items list).items (together items rest)
+abbrev pub concatenated : {A B : Type 0} → (B → Read A) → List B → Read A
+concatenated items [] = nothing_read None
+concatenated items (list ∷ rest) = unless_broken (items list).fault (items list).items (concatenated items rest)

@@ -1,13 +1,13 @@
 pub mod Bytes
-pub mod ContainerFault
+pub mod ContainerError
 pub mod Directory
-pub mod Excerpts
+pub mod StreamSubsets
 pub mod Faults
 pub mod ItemLists
 pub mod Msf
 pub mod NumberLists
 pub mod Readings
 pub mod StreamBlocks
-pub mod StreamMap
+pub mod MsfLayout
 pub mod Streams
 pub mod Superblock

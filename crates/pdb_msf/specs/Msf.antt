@@ -4,8 +4,8 @@ use Rattle.std.specs.Prelude.{Option, Some, None, Result, Ok, Err, if◌then◌e
 use Rattle.std.specs.Int.{div_ceil}
 use Rattle.std.specs.List.{sum_by}
 use Rattle.pdb_records.specs.declared.error.StreamError.{StreamError}
-use Rattle.pdb_msf.specs.declared.container_fault.ContainerFault.{ContainerFault}
-use Rattle.pdb_msf.specs.declared.container_fault.ContainerFault.TheVariants as fault
+use Rattle.pdb_msf.specs.declared.container_error.ContainerError.{ContainerError}
+use Rattle.pdb_msf.specs.declared.container_error.ContainerError.TheVariants as fault
 use Rattle.pdb_msf.specs.declared.faults.TheConstants.{NO_STREAM}
 use Rattle.pdb_msf.specs.Directory.{absent, block_count, directory, sizes_in, total_size}
 use Rattle.pdb_msf.specs.Faults.{◌>>=◌, cut_short}
@@ -27,7 +27,7 @@ over file block_size directory sizes =
 
 -- a file is a container if it has a superblock, a directory and the sizes of streams that are no longer than the file
 -- together; else it has the first fault of these
-unfoldable pub container : List ℕ → Result Msf ContainerFault
+unfoldable pub container : List ℕ → Result Msf ContainerError
 container file = do
   front ← superblock file
   bytes ← cut_short (directory front file)

@@ -13,8 +13,8 @@ abbrev pub behind : {A : Type 0} → List A → Read A → Read A
 behind items rest = record { items = items ++ rest.items; fault = rest.fault }
 
 -- what is read of a list whose bytes end early by this fault: the list's own fault comes first
-abbrev pub ending : {A : Type 0} → Option StreamError → Read A → Read A
-ending fault list = record { items = list.items; fault = option_or list.fault fault }
+abbrev pub with_fault : {A : Type 0} → Option StreamError → Read A → Read A
+with_fault fault list = record { items = list.items; fault = option_or list.fault fault }
 
 -- items that all were read, or the fault
 abbrev pub all_or_fault : {A : Type 0} → Option StreamError → List A → Result (List A) StreamError

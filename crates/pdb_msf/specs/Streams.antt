@@ -11,13 +11,13 @@ abbrev pub block : ℕ → List ℕ → ℕ → List ℕ
 block size file number = take size (drop (number * size) file)
 
 -- the bytes of these blocks, one after the other in the order of the list
-abbrev pub in_order : ℕ → List ℕ → List ℕ → List ℕ
-in_order size file [] = []
-in_order size file (number ∷ numbers) = block size file number ++ in_order size file numbers
+abbrev pub bytes_of_blocks : ℕ → List ℕ → List ℕ → List ℕ
+bytes_of_blocks size file [] = []
+bytes_of_blocks size file (number ∷ numbers) = block size file number ++ bytes_of_blocks size file numbers
 
 -- the bytes of a stream: those of its blocks in order, up to its length
 abbrev pub stream : ℕ → List ℕ → ℕ → List ℕ → List ℕ
-stream size file stream_length numbers = take stream_length (in_order size file numbers)
+stream size file stream_length numbers = take stream_length (bytes_of_blocks size file numbers)
 
 -- whether the file has the whole of each of these blocks
 abbrev pub all_inside : ℕ → List ℕ → List ℕ → Bool

@@ -2,10 +2,10 @@
 use Rattle.std.specs.Prelude.{ℕ, ◌==◌, nat_lt, Bool, not, List, [], ◌∷◌, ◌++◌, drop, length, codes}
 use Rattle.std.specs.Prelude.{Result, Ok, Err, if◌then◌else◌}
 use Rattle.std.specs.List.{list_any}
-use Rattle.pdb_msf.specs.declared.container_fault.ContainerFault.{ContainerFault}
-use Rattle.pdb_msf.specs.declared.container_fault.ContainerFault.TheVariants as file
+use Rattle.pdb_msf.specs.declared.container_error.ContainerError.{ContainerError}
+use Rattle.pdb_msf.specs.declared.container_error.ContainerError.TheVariants as file
 use Rattle.pdb_msf.specs.declared.superblock.Superblock.{Superblock}
-use Rattle.pdb_msf.specs.ContainerFault.{begins, other_fault}
+use Rattle.pdb_msf.specs.ContainerError.{begins, other_fault}
 use Rattle.pdb_msf.specs.NumberLists.{number}
 
 -- the magic of the format: its name, the ends of a line and of a text, the letters DS, and zeros up to 32 bytes
@@ -26,7 +26,7 @@ abbrev pub fields : List ℕ → Superblock
 fields bytes = record { block_size = number (drop 32 bytes); directory_size = number (drop 44 bytes) }
 
 -- the superblock of a file: the magic, all of its 56 bytes, and a size that blocks may have
-unfoldable pub superblock : List ℕ → Result Superblock ContainerFault
+unfoldable pub superblock : List ℕ → Result Superblock ContainerError
 superblock bytes =
     if not (is_msf bytes) then Err (other_fault bytes) else
     if nat_lt (length bytes) 56 then Err file.CutShort else

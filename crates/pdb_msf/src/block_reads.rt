@@ -2,12 +2,12 @@
 
 ghost use Rattle.std.specs.Prelude.{◌≡◌, ◌≤◌, ◌<◌, ◌+◌, ◌*◌, ◌^◌, ◌++◌, List, ℕ};
 ghost use Rattle.std.specs.Prelude.{length, take, drop, IfErr, IfOk, IfSome, OnOk};
-ghost use Rattle.pdb_msf.specs.StreamMap.{IfFile, bytes_read};
-ghost use Rattle.pdb_msf.specs.Streams.{all_inside, blocks_end, in_order, stream_inside};
+ghost use Rattle.pdb_msf.specs.MsfLayout.{IfFile, bytes_read};
+ghost use Rattle.pdb_msf.specs.Streams.{all_inside, blocks_end, bytes_of_blocks, stream_inside};
 
 use crate::faults::BLOCK_OUTSIDE;
 use crate::source::Source;
-use crate::source_fault::SourceFault;
+use crate::source_error::SourceError;
 use pdb_records::StreamError;
 use std::alloc::Global;
 
@@ -64,11 +64,11 @@ pub fn read_blocks<S: Source>(
     grid: BlockGrid,
     length: usize,
     blocks: &[u32],
-) -> Result<Result<Vec<u8>, StreamError>, SourceFault>
+) -> Result<Result<Vec<u8>, StreamError>, SourceError>
     requires { grid.block_size ≤ 32768 }
     ensures answer { IfOk result (λ answer. IfFile (S.bytes source.old) grid.file_length (λ file.
         stream_inside grid.block_size file length blocks.now ≡ bytes_read answer)) }
-    ensures refused { IfErr result (λ fault. fault ≡ SourceFault.Unreadable
+    ensures refused { IfErr result (λ fault. fault ≡ SourceError.Unreadable
         → S.refuses_from source.old ≤ grid.file_length) }
     ensures inputs { S.bytes source.new ≡ S.bytes source.old }
     ensures refusals { S.refuses_from source.new ≡ S.refuses_from source.old }
@@ -88,15 +88,15 @@ pub fn append_blocks<S: Source>(
     grid: BlockGrid,
     blocks: &[u32],
     bytes: &mut Vec<u8>,
-) -> Result<(), SourceFault>
+) -> Result<(), SourceError>
     requires { grid.block_size ≤ 32768 }
     ensures answer { OnOk result (IfSome (S.bytes source.old) (λ file.
-        bytes.new.items ≡ bytes.old.items ++ in_order grid.block_size file blocks.now)) }
+        bytes.new.items ≡ bytes.old.items ++ bytes_of_blocks grid.block_size file blocks.now)) }
     ensures begins { take (length bytes.old.items) bytes.new.items ≡ bytes.old.items }
     ensures length { OnOk result (length bytes.new.items
         ≡ length bytes.old.items + length blocks.now * grid.block_size) }
     ensures most { length bytes.new.items ≤ length bytes.old.items + length blocks.now * grid.block_size }
-    ensures refused { IfErr result (λ fault. fault ≡ SourceFault.Unreadable
+    ensures refused { IfErr result (λ fault. fault ≡ SourceError.Unreadable
         → S.refuses_from source.old ≤ blocks_end grid.block_size blocks.now) }
     ensures inputs { S.bytes source.new ≡ S.bytes source.old }
     ensures refusals { S.refuses_from source.new ≡ S.refuses_from source.old }
@@ -121,13 +121,13 @@ pub(crate) fn append_run<S: Source>(
     source: &mut S,
     run: Run,
     bytes: &mut Vec<u8>,
-) -> Result<(), SourceFault>
+) -> Result<(), SourceError>
     ensures answer { OnOk result (IfSome (S.bytes source.old) (λ file.
         bytes.new.items ≡ bytes.old.items ++ take run.length (drop run.start file))) }
     ensures begins { take (length bytes.old.items) bytes.new.items ≡ bytes.old.items }
     ensures length { OnOk result (length bytes.new.items ≡ length bytes.old.items + run.length) }
     ensures most { length bytes.new.items ≤ length bytes.old.items + run.length }
-    ensures refused { IfErr result (λ fault. fault ≡ SourceFault.Unreadable
+    ensures refused { IfErr result (λ fault. fault ≡ SourceError.Unreadable
         → S.refuses_from source.old ≤ run.start + run.length) }
     ensures inputs { S.bytes source.new ≡ S.bytes source.old }
     ensures refusals { S.refuses_from source.new ≡ S.refuses_from source.old }

@@ -85,7 +85,7 @@ pub fn block_numbers(
 pub fn blocks_over(size: u32, block_size: usize) -> usize
     requires { 512 ≤ block_size }
     ensures answer { result ≡ div_ceil size block_size }
-    ensures few { result ≤ 8388608 }
+    ensures bound { result ≤ 8388608 }
 {
     (size as usize).div_ceil(block_size)
 }
@@ -94,7 +94,7 @@ pub fn blocks_over(size: u32, block_size: usize) -> usize
 #[tactic(auto, unfolding(crate::specs::Directory::sizes_in))]
 pub fn read_sizes(alloc: Global, directory: &[u8]) -> Result<Vec<u32>, Fault>
     ensures answer { Gives (λ sizes. sizes.items) result (sizes_in directory.now) }
-    ensures few { IfOk result (λ sizes. length sizes.items < 2 ^ 32) }
+    ensures bound { IfOk result (λ sizes. length sizes.items < 2 ^ 32) }
 {
     let mut sizes = Bytes::new(directory);
     let count = sizes.u32()?;
@@ -142,7 +142,7 @@ pub fn list_extents(
 fn blocks_of_stream(size: u32, block_size: usize) -> usize
     requires { 512 ≤ block_size }
     ensures answer { result ≡ block_count block_size size }
-    ensures few { result ≤ 8388608 }
+    ensures bound { result ≤ 8388608 }
 {
     if size == ABSENT {
         return 0;

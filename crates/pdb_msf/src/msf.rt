@@ -8,12 +8,12 @@ ghost use Rattle.pdb_msf.specs.StreamBlocks.{stream_in};
 ghost use Rattle.pdb_msf.specs.Streams.{bytes_of};
 
 use crate::block_reads::BlockGrid;
-use crate::container_fault::ContainerFault;
+use crate::container_error::ContainerError;
 use crate::directory::{
     ABSENT, StreamExtent, block_numbers, list_extents, read_directory, read_sizes, sizes_fit,
 };
 use crate::faults::{Fault, NO_STREAM};
-use crate::source::{Source, Unreadable};
+use crate::source::{RangeError, Source};
 use crate::stream_blocks::StreamBlocks;
 use crate::streams::{StreamBytes, read_stream};
 use crate::superblock::read_superblock;
@@ -56,14 +56,14 @@ impl<'a> Model for Container<'a> {
 impl<'a> Container<'a> {
     /// The streams of a file, or why it can't be read as a whole.
     #[tactic(auto, using(crate::proofs::ExtentLemmas::opened), unfolding(crate::specs::Msf::container))]
-    pub fn open(alloc: Global, file: &'a [u8]) -> Result<Self, ContainerFault>
+    pub fn open(alloc: Global, file: &'a [u8]) -> Result<Self, ContainerError>
         ensures { Opens (λ opened. opened) result (container file.now) }
     {
         let superblock = read_superblock(file)?;
         let directory = read_directory(alloc, file, superblock)?;
         let sizes = read_sizes(alloc, directory.as_slice())?;
         if !sizes_fit(&sizes, file.len()) {
-            return Err(ContainerFault::StreamsTooLong);
+            return Err(ContainerError::StreamsTooLong);
         }
         let streams = list_extents(alloc, &sizes, superblock.block_size)?;
         Ok(Container {
@@ -156,7 +156,7 @@ impl<'a> Source for Container<'a> {
 
     ghost refuses_from = { λ container. length container.file + 1 };
 
-    fn read_exact_at(&mut self, buffer: &mut [u8], place: usize) -> Result<(), Unreadable> {
+    fn read_exact_at(&mut self, buffer: &mut [u8], place: usize) -> Result<(), RangeError> {
         self.file.read_exact_at(buffer, place)
     }
 }

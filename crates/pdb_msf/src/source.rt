@@ -4,7 +4,7 @@ ghost use Rattle.std.specs.Prelude.{◌≡◌, ◌≤◌, ◌+◌, ℕ, List, Op
 
 /// A range of a file can't be read: the file ends before, or the system refuses it.
 #[derive(Debug, Clone, Copy, PartialEq, Eq)]
-pub struct Unreadable;
+pub struct RangeError;
 
 /// The bytes of a file, which are read range by range.
 pub trait Source {
@@ -16,7 +16,7 @@ pub trait Source {
     ghost refuses_from: { Self → ℕ };
 
     /// Fills a buffer with the bytes from a place of the file on.
-    fn read_exact_at(&mut self, buffer: &mut [u8], place: usize) -> Result<(), Unreadable>
+    fn read_exact_at(&mut self, buffer: &mut [u8], place: usize) -> Result<(), RangeError>
         ensures read { OnOk result (IfSome (bytes self.old) (λ file.
             buffer.new ≡ take (length buffer.old) (drop place file))) }
         ensures refused { OnErr result (refuses_from self.old ≤ place + length buffer.old) }
@@ -31,9 +31,9 @@ impl Source for &[u8] {
 
     ghost refuses_from = { λ slice. length slice.now + 1 };
 
-    fn read_exact_at(&mut self, buffer: &mut [u8], place: usize) -> Result<(), Unreadable> {
-        let (_, rest) = self.split_at_checked(place).ok_or(Unreadable)?;
-        let (bytes, _) = rest.split_at_checked(buffer.len()).ok_or(Unreadable)?;
+    fn read_exact_at(&mut self, buffer: &mut [u8], place: usize) -> Result<(), RangeError> {
+        let (_, rest) = self.split_at_checked(place).ok_or(RangeError)?;
+        let (bytes, _) = rest.split_at_checked(buffer.len()).ok_or(RangeError)?;
         buffer.copy_from_slice(bytes);
         Ok(())
     }

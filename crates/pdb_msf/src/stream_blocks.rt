@@ -8,7 +8,7 @@ ghost use Rattle.pdb_msf.specs.Streams.{stream_inside};
 use crate::block_reads::{BlockGrid, Run, append_blocks, append_run};
 use crate::faults::BLOCK_OUTSIDE;
 use crate::source::Source;
-use crate::source_fault::SourceFault;
+use crate::source_error::SourceError;
 use pdb_records::StreamError;
 use std::marker::Model;
 
@@ -80,10 +80,10 @@ impl StreamBlocks {
         place: usize,
         count: usize,
         bytes: &mut Vec<u8>,
-    ) -> Result<(), SourceFault>
+    ) -> Result<(), SourceError>
         ensures answer { OnOk result (IfSome (said_in (S.bytes source.old) self.now) (λ stream.
             bytes.new.items ≡ take count (drop place stream))) }
-        ensures refused { IfErr result (λ fault. fault ≡ SourceFault.Unreadable
+        ensures refused { IfErr result (λ fault. fault ≡ SourceError.Unreadable
             → S.refuses_from source.old ≤ self.now.file_length) }
         ensures inputs { S.bytes source.new ≡ S.bytes source.old }
         ensures refusals { S.refuses_from source.new ≡ S.refuses_from source.old }

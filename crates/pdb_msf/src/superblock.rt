@@ -3,7 +3,7 @@
 ghost use Rattle.std.specs.Prelude.{◌≡◌, ◌≤◌, IsTrue, IfOk, OnOk, length};
 ghost use Rattle.pdb_msf.specs.Superblock.{is_msf, is_block_size, superblock};
 
-use crate::container_fault::{ContainerFault, other_file};
+use crate::container_error::{ContainerError, other_file};
 use crate::number_lists::number_at;
 
 /// The bytes that a file of this format begins with.
@@ -27,7 +27,7 @@ pub struct Superblock {
 
 /// The superblock of a file, or why that is no file of this format.
 #[tactic(auto, unfolding(crate::specs::Superblock::superblock))]
-pub fn read_superblock(file: &[u8]) -> Result<Superblock, ContainerFault>
+pub fn read_superblock(file: &[u8]) -> Result<Superblock, ContainerError>
     ensures answer { result ≡ superblock file.now }
     ensures least { IfOk result (λ front. 512 ≤ front.block_size) }
     ensures most { IfOk result (λ front. front.block_size ≤ 32768) }
@@ -37,11 +37,11 @@ pub fn read_superblock(file: &[u8]) -> Result<Superblock, ContainerFault>
         return Err(other_file(file));
     }
     if file.len() < SUPERBLOCK {
-        return Err(ContainerFault::CutShort);
+        return Err(ContainerError::CutShort);
     }
     let block_size = number_at(file, BLOCK_SIZE);
     if !is_block_size(block_size) {
-        return Err(ContainerFault::NotAPdbFile);
+        return Err(ContainerError::NotAPdbFile);
     }
     Ok(Superblock {
         block_size: block_size as usize,

@@ -8,13 +8,13 @@ use Rattle.pdb_records.specs.declared.ids.IdIndex.{IdIndex}
 use Rattle.pdb_errors.specs.Outcomes.{and_then}
 use Rattle.pdb_types.specs.declared.read_error.Part.{Part}
 use Rattle.pdb_types.specs.ReadError.{ReadErrorView}
-use Rattle.pdb_documents.specs.declared.this.This.{This}
-use Rattle.pdb_documents.specs.Flags.{without_arguments}
-use Rattle.pdb_documents.specs.Functions.{unless_left_out, returned, further_types, types_between, function_arguments}
-use Rattle.pdb_documents.specs.Ids.{scope}
-use Rattle.pdb_documents.specs.Methods.{plain_this, printed_this, this_by_target, this_by_type, this_of}
-use Rattle.pdb_documents.specs.Plans.{Index, Plan, Later, ◌▸◌, circular, opened, is_among, met_before, written}
-use Rattle.pdb_documents.specs.PrintInputs.{PrintInputs}
+use Rattle.pdb_type_texts.specs.declared.this.ThisParameter.{ThisParameter}
+use Rattle.pdb_type_texts.specs.FlagTests.{without_arguments}
+use Rattle.pdb_type_texts.specs.Functions.{unless_left_out, returned, further_types, types_between, function_arguments}
+use Rattle.pdb_type_texts.specs.Ids.{scope}
+use Rattle.pdb_type_texts.specs.Methods.{plain_this, printed_this, this_by_target, this_by_type, this_of}
+use Rattle.pdb_type_texts.specs.Plans.{Index, Plan, Later, ◌▸◌, circular, opened, is_among, met_before, written}
+use Rattle.pdb_type_texts.specs.PrintInputs.{PrintInputs}
 use Rattle.pdb_part_laws.specs.Asked.{Indices, alone, AreTypesIn, AreIdsIn, AsksAt}
 
 -- what a function returns
@@ -66,7 +66,7 @@ asks_opened at inside index p asked = by_test (is_among index inside) where
   by_test false = asked
 
 -- what a method's `this` shows: an argument that it gives is in the set
-abbrev pub GivesIn : Indices → Result This ReadErrorView → Type 0
+abbrev pub GivesIn : Indices → Result ThisParameter ReadErrorView → Type 0
 GivesIn at (Ok this) = AreTypesIn at.types (alone this.argument)
 GivesIn at (Err error) = ⊤
 

@@ -1,13 +1,13 @@
 -- The documents of plans over two print inputs that agree.
 use Rattle.std.proofs.Common.{◌≡◌, ◌^◌, ℕ, zero, suc, true, List, refl, ap, ◌∙◌}
 use Rattle.pdb_types.specs.declared.flags.TypeFormatterFlags.{TypeFormatterFlags}
-use Rattle.pdb_documents.specs.Documents.{Document}
-use Rattle.pdb_documents.specs.Ids.{id_of_index}
-use Rattle.pdb_documents.specs.Plans.{Task, Plan, Done, Later, Seq, Buffered, Catch}
-use Rattle.pdb_documents.specs.Printed.{plan_document, task_document, enough_for, document_of}
-use Rattle.pdb_documents.specs.Rules.{rule}
-use Rattle.pdb_documents.specs.Signatures.{signature}
-use Rattle.pdb_documents.specs.PrintInputs.{PrintInputs}
+use Rattle.pdb_type_texts.specs.Documents.{Document}
+use Rattle.pdb_type_texts.specs.Ids.{id_of_index}
+use Rattle.pdb_type_texts.specs.Plans.{Task, Plan, Done, Later, Seq, Buffered, Catch}
+use Rattle.pdb_type_texts.specs.Printed.{plan_document, task_document, enough_for, document_of}
+use Rattle.pdb_type_texts.specs.Rules.{rule}
+use Rattle.pdb_type_texts.specs.Signatures.{signature}
+use Rattle.pdb_type_texts.specs.PrintInputs.{PrintInputs}
 use Rattle.pdb_part_laws.specs.Asked.{Indices, AgreeAt, IsClosedAt, TaskAsksAt, AsksAt}
 use Rattle.pdb_part_laws.proofs.SamePlans.{IsSame, with_flags_of, same_rule, same_signature}
 

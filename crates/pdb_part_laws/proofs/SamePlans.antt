@@ -17,19 +17,19 @@ use Rattle.pdb_records.specs.declared.types.TypeData.TheVariants.{ArgumentList, 
 use Rattle.pdb_errors.specs.Outcomes.{and_then}
 use Rattle.pdb_types.specs.declared.type_sizes.TypeSize.{TypeSize}
 use Rattle.pdb_types.specs.ReadError.{ReadErrorView}
-use Rattle.pdb_documents.specs.declared.attributes.Attribute.{Attribute}
-use Rattle.pdb_documents.specs.declared.tasks.MethodForm.{MethodForm}
-use Rattle.pdb_documents.specs.Flags.{without_arguments, without_return_type}
-use Rattle.pdb_documents.specs.Wording.{comma, function_name, dimensions_text}
-use Rattle.pdb_documents.specs.Ids.{method_id, function_id, id_by_kind}
-use Rattle.pdb_documents.specs.Methods.{plain_this, this_by_target, this_by_type, this_of, arguments_behind}
-use Rattle.pdb_documents.specs.Methods.{method_list, on_list, method_arguments}
-use Rattle.pdb_documents.specs.Plans.{Task, Index, OfType, MethodArguments, Chain, BehindModifier, Modified, Elements}
-use Rattle.pdb_documents.specs.Plans.{Id, Plan, Later, Catch, ◌▸◌, written, circular, is_among}
-use Rattle.pdb_documents.specs.Plans.{on_read, on_printed, opened, opening, met_before}
-use Rattle.pdb_documents.specs.Rules.{chain_end, behind_modifier, behind_pointer, element, modified, by_kind, rule}
-use Rattle.pdb_documents.specs.Signatures.{signature_by_type, signature}
-use Rattle.pdb_documents.specs.PrintInputs.{PrintInputs}
+use Rattle.pdb_type_texts.specs.declared.attributes.Attribute.{Attribute}
+use Rattle.pdb_type_texts.specs.declared.tasks.MethodForm.{MethodForm}
+use Rattle.pdb_type_texts.specs.FlagTests.{without_arguments, without_return_type}
+use Rattle.pdb_type_texts.specs.Wording.{comma, function_name, dimensions_text}
+use Rattle.pdb_type_texts.specs.Ids.{method_id, function_id, id_by_kind}
+use Rattle.pdb_type_texts.specs.Methods.{plain_this, this_by_target, this_by_type, this_of, arguments_behind}
+use Rattle.pdb_type_texts.specs.Methods.{method_list, on_list, method_arguments}
+use Rattle.pdb_type_texts.specs.Plans.{Task, Index, OfType, MethodArguments, Chain, BehindModifier, Modified, Elements}
+use Rattle.pdb_type_texts.specs.Plans.{Id, Plan, Later, Catch, ◌▸◌, written, circular, is_among}
+use Rattle.pdb_type_texts.specs.Plans.{on_read, on_printed, opened, opening, met_before}
+use Rattle.pdb_type_texts.specs.Rules.{chain_end, behind_modifier, behind_pointer, element, modified, by_kind, rule}
+use Rattle.pdb_type_texts.specs.Signatures.{signature_by_type, signature}
+use Rattle.pdb_type_texts.specs.PrintInputs.{PrintInputs}
 use Rattle.pdb_part_laws.specs.Asked.{Indices, AgreeAt, IsClosedAt, TypeAsksAt, IdAsksAt, TaskAsksAt, AsksAt}
 use Rattle.pdb_part_laws.specs.Asked.{alone, AreTypesIn}
 use Rattle.pdb_part_laws.proofs.AskedLemmas.{asks_returned, asks_between, asks_arguments, asks_scope, asks_met}
@@ -197,7 +197,7 @@ module _ (at : Indices) (w other : PrintInputs) (agree : AgreeAt at w other) (cl
             by_target p.underlying_type behind.types.0 (p.underlying_type.0 == class.0)
         by_type other behind = refl
 
-  -- a method's list of arguments, behind `this` where that is an argument
+  -- a method's list of arguments, after `this` where that is an argument
   same_list : (m : MemberFunctionType) (form : MethodForm) (inside : List ℕ) (list : List TypeIndex)
       → AreTypesIn at.types list → AreTypesIn at.types (alone m.this_pointer_type)
       → IsSame at (on_read (this_of w m.class_type m.this_pointer_type) (method_list w inside form list))

@@ -7,9 +7,9 @@ use Rattle.pdb_records.specs.declared.types.TypeData.TheVariants as type
 use Rattle.pdb_records.specs.declared.ids.IdIndex.{IdIndex}
 use Rattle.pdb_records.specs.declared.ids.IdData.{IdData}
 use Rattle.pdb_records.specs.declared.ids.IdData.TheVariants as id
-use Rattle.pdb_documents.specs.PrintInputs.{PrintInputs}
-use Rattle.pdb_documents.specs.Plans.{Task, Index, OfType, MethodArguments, Chain, BehindModifier, Modified, Elements}
-use Rattle.pdb_documents.specs.Plans.{Id, Plan, Done, Later, Seq, Buffered, Catch}
+use Rattle.pdb_type_texts.specs.PrintInputs.{PrintInputs}
+use Rattle.pdb_type_texts.specs.Plans.{Task, Index, OfType, MethodArguments, Chain, BehindModifier, Modified, Elements}
+use Rattle.pdb_type_texts.specs.Plans.{Id, Plan, Done, Later, Seq, Buffered, Catch}
 
 -- three sets of indices, each as a test: of types, of sizes and of ids
 pub record Indices : Type 0 where

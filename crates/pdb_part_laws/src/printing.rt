@@ -1,11 +1,11 @@
 //! What the printing of types and ids depends on.
 
 ghost use Rattle.std.specs.Prelude.{◌≡◌, ℕ, true, List};
-ghost use Rattle.pdb_documents.specs.PrintInputs.{PrintInputs};
-ghost use Rattle.pdb_documents.specs.Plans.{Plan};
-ghost use Rattle.pdb_documents.specs.Printed.{document_of};
-ghost use Rattle.pdb_documents.specs.Ids.{id_of_index};
-ghost use Rattle.pdb_documents.specs.Signatures.{signature};
+ghost use Rattle.pdb_type_texts.specs.PrintInputs.{PrintInputs};
+ghost use Rattle.pdb_type_texts.specs.Plans.{Plan};
+ghost use Rattle.pdb_type_texts.specs.Printed.{document_of};
+ghost use Rattle.pdb_type_texts.specs.Ids.{id_of_index};
+ghost use Rattle.pdb_type_texts.specs.Signatures.{signature};
 ghost use Rattle.pdb_part_laws.specs.Asked.{Indices, AgreeAt, IsClosedAt, AsksAt};
 
 /// What is printed depends on the indices that it asks for, and on nothing else. Take sets of indices that no record in

@@ -11,3 +11,4 @@ pub mod SymbolKinds
 pub mod OrderLaws
 pub mod Sections
 pub mod Records
+pub mod Provided

@@ -12,6 +12,7 @@ mod debug_information;
 mod error;
 mod ids;
 mod lines;
+mod module_provider;
 mod modules;
 pub mod order_laws;
 mod pdb;
@@ -30,6 +31,7 @@ pub use ids::{
     UnhandledId,
 };
 pub use lines::{FileIndex, FileInfo, LineInfo, LineProgram, SymbolLines};
+pub use module_provider::ModuleProvider;
 pub use modules::{CrossModuleExports, CrossModuleImports, ImportedModule, Inlinee, ModuleInfo};
 pub use pdb::PDB;
 pub use raw_string::RawString;

@@ -13,8 +13,8 @@ use Rattle.serde_json.specs.Data.{Data}
 use Rattle.pdb_json.specs.RecordsFile.{wanted_files_of}
 use Rattle.pdb_records_files.specs.ModulePaths.{module_path}
 use Rattle.pdb_records_files.specs.ModuleFiles.{IsModuleFileFault, AreModuleFileFaults}
-use Rattle.pdb_records_files.specs.declared.module_files.ModuleFileFault.{ModuleFileFault}
-use Rattle.pdb_records_files.specs.declared.module_files.ModuleFileFault.TheVariants.{OutOfMemory, CannotRead, Records}
+use Rattle.pdb_records_files.specs.declared.module_files.ModuleFileError.{ModuleFileError}
+use Rattle.pdb_records_files.specs.declared.module_files.ModuleFileError.TheVariants.{OutOfMemory, CannotRead, Records}
 
 rfind_below-None : (c : ℕ) (text : List ℕ) (n : ℕ) → ((i : ℕ) → i < n → get_or text i 0 ≡ c → ⊥)
     → rfind_below c text n ≡ None
@@ -61,7 +61,7 @@ Contains-map f xs k x below is =
     (k, omega (arith, length-map xs f), get_or-map f xs k x (f x) below ∙ ap f (sym is))
 
 -- a module file that a value wants can't be read
-pub module_stops_the_read : (records_path name : List ℕ) (names : List (List ℕ)) (value : Data) (why : ModuleFileFault)
+pub module_stops_the_read : (records_path name : List ℕ) (names : List (List ℕ)) (value : Data) (why : ModuleFileError)
     → wanted_files_of value ≡ Ok names → Contains names name → IsModuleFileFault (module_path records_path name) why
     → AreModuleFileFaults records_path value why
 module_stops_the_read records_path name names value (CannotRead shown) wanted among at_path =

@@ -4,10 +4,10 @@ use Rattle.std.specs.List.{Contains}
 use Rattle.std.specs.declared.io.ErrorKind.{ErrorKind}
 use Rattle.std.specs.declared.io.ErrorKind.TheVariants as kind
 use Rattle.serde_json.specs.Data.{Data}
-use Rattle.pdb_json_values.specs.Faults.{Fault, IsFaultOf}
+use Rattle.pdb_json_values.specs.RecordFault.{Fault, IsFaultOf}
 use Rattle.pdb_json.specs.RecordsFile.{wanted_files_of}
-use Rattle.pdb_records_files.specs.declared.module_files.ModuleFileFault.{ModuleFileFault}
-use Rattle.pdb_records_files.specs.declared.module_files.ModuleFileFault.TheVariants.{OutOfMemory, CannotRead, Records}
+use Rattle.pdb_records_files.specs.declared.module_files.ModuleFileError.{ModuleFileError}
+use Rattle.pdb_records_files.specs.declared.module_files.ModuleFileError.TheVariants.{OutOfMemory, CannotRead, Records}
 use Rattle.pdb_records_files.specs.ModulePaths.{module_path}
 
 -- the system had no memory
@@ -16,7 +16,7 @@ is_out_of_memory kind.OutOfMemory = true
 is_out_of_memory _ = false
 
 -- the module file at a path can't be read, and is shown by its path; or memory ran out
-abbrev pub IsModuleFileFault : List ℕ → ModuleFileFault → Type 0
+abbrev pub IsModuleFileFault : List ℕ → ModuleFileError → Type 0
 IsModuleFileFault path (CannotRead shown) = string_bytes shown ≡ path
 IsModuleFileFault path OutOfMemory = ⊤
 IsModuleFileFault path (Records fault) = ⊥
@@ -31,7 +31,7 @@ pub record IsWantedPath (records_path : List ℕ) (files : Result (List (List �
 
 -- a module file that a records file with this value wants can't be read, and is shown by its path; or the value shows
 -- no module files; or memory ran out
-abbrev pub AreModuleFileFaults : List ℕ → Data → ModuleFileFault → Type 0
+abbrev pub AreModuleFileFaults : List ℕ → Data → ModuleFileError → Type 0
 AreModuleFileFaults records_path value (CannotRead shown) =
     IsWantedPath records_path (wanted_files_of value) (string_bytes shown)
 AreModuleFileFaults records_path value OutOfMemory = ⊤

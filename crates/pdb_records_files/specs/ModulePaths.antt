@@ -2,7 +2,7 @@
 use Rattle.std.specs.Prelude.{ℕ, ◌==◌, List, [], ◌∷◌, ◌++◌, Option, Some, None, slice_index, if◌then◌else◌}
 use Rattle.std.specs.Path.{slash, rsplit_once}
 
--- the part of a path up to and including its last slash, by what stands before and behind that
+-- the part of a path up to and including its last slash, by what stands before and after that
 abbrev pub folder_before : Option (List ℕ × List ℕ) → List ℕ
 folder_before None = []
 folder_before (Some split) = split.0 ++ slash ∷ []

@@ -4,5 +4,5 @@
 mod module_files;
 mod module_paths;
 
-pub use module_files::{ModuleFileFault, ran_out_of_memory, read_module_files};
+pub use module_files::{ModuleFileError, ran_out_of_memory, read_module_files};
 pub use module_paths::module_path;

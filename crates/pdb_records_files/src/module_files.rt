@@ -13,7 +13,7 @@ use std::{fs, io};
 
 /// Why the module files of a records file can't be read.
 #[derive(Debug, Drop)]
-pub enum ModuleFileFault {
+pub enum ModuleFileError {
     /// There was no memory.
     OutOfMemory,
     /// The module file at this path can't be read.
@@ -28,18 +28,18 @@ pub fn read_module_files<R: Files + AllocGlobal>(
     rt: &R,
     records_path: &str,
     file: &RecordsFile,
-) -> Result<Vec<Vec<u8>>, ModuleFileFault>
+) -> Result<Vec<Vec<u8>>, ModuleFileError>
     ensures { IfErr result (AreModuleFileFaults records_path.now (view file.now.value)) }
 {
     let names = match file.module_files() {
         Ok(names) => names,
-        Err(fault) => return Err(ModuleFileFault::Records(fault)),
+        Err(fault) => return Err(ModuleFileError::Records(fault)),
     };
     let mut files = Vec::new(rt.alloc());
     for name in &names {
         let bytes = read_module_file(rt, records_path, name.as_str())?;
         if files.push(bytes).is_err() {
-            return Err(ModuleFileFault::OutOfMemory);
+            return Err(ModuleFileError::OutOfMemory);
         }
     }
     Ok(files)
@@ -50,16 +50,16 @@ fn read_module_file<R: Files + AllocGlobal>(
     rt: &R,
     records_path: &str,
     name: &str,
-) -> Result<Vec<u8>, ModuleFileFault>
+) -> Result<Vec<u8>, ModuleFileError>
     ensures { IfErr result (IsModuleFileFault (module_path records_path.now name.now)) }
 {
     let Ok(path) = module_path(rt.alloc(), records_path, name) else {
-        return Err(ModuleFileFault::OutOfMemory);
+        return Err(ModuleFileError::OutOfMemory);
     };
     match read_regular_file(rt, path.as_str()) {
         Ok(bytes) => Ok(bytes),
-        Err(error) if ran_out_of_memory(&error) => Err(ModuleFileFault::OutOfMemory),
-        Err(_) => Err(ModuleFileFault::CannotRead(path)),
+        Err(error) if ran_out_of_memory(&error) => Err(ModuleFileError::OutOfMemory),
+        Err(_) => Err(ModuleFileError::CannotRead(path)),
     }
 }
 

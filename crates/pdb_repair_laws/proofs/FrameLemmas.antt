@@ -11,9 +11,9 @@ use Rattle.pdb_records.specs.declared.debug_information.Module.{Module}
 use Rattle.pdb_records.specs.declared.ids.IdIndex.{IdIndex}
 use Rattle.pdb_records.specs.declared.modules.ModuleInfo.{ModuleInfo}
 use Rattle.pdb_errors.specs.Outcomes.{and_then}
-use Rattle.pdb_functions.specs.FoundFunctions.{FoundFunction, function_module, function_start}
-use Rattle.pdb_functions.specs.ModuleInfos.{readable_info}
-use Rattle.pdb_function_info.specs.Frames.{Strings, function_frames, origin_frames}
+use Rattle.pdb_functions.specs.FunctionMatches.{FunctionMatch, function_module, function_start}
+use Rattle.pdb_functions.specs.ModuleInfoCache.{readable_info}
+use Rattle.pdb_function_info.specs.Frames.{Strings, function_frames, code_location_frames}
 use Rattle.pdb_addr2line.specs.ContextInputs.{ContextInputs}
 use Rattle.pdb_addr2line.specs.Lookups.{frames_at, frames_of, found_at, records_of}
 use Rattle.pdb_repairs.specs.Repaired.{ModuleOrFault, repaired, repaired_module, repaired_read}
@@ -60,15 +60,15 @@ readable_repaired whole modules index = by_module (slice_get modules index) refl
 
 -- the frames of a function are answered by a module that was repaired, or by none
 function_answered : (strings : Strings) (name_of : IdIndex → Option (List ℕ)) (name : Option (List ℕ))
-    (info : Option ModuleInfo) (found : FoundFunction) (x : ℕ)
+    (info : Option ModuleInfo) (found : FunctionMatch) (x : ℕ)
     → IsAnswer (function_frames strings name_of name (option_map repaired_module info) found x)
 function_answered strings name_of name None found x = (_, refl)
 function_answered strings name_of name (Some info) found x =
     let (from, is) = origin_answered info found x in
-    (origin_frames strings name_of name from, rw is refl)
+    (code_location_frames strings name_of name from, rw is refl)
 
 -- the frames info of what was found is answered
-frames_answered : (whole : Records) (inputs : ContextInputs Records) (x : ℕ) (found : FoundFunction)
+frames_answered : (whole : Records) (inputs : ContextInputs Records) (x : ℕ) (found : FunctionMatch)
     → inputs.provider ≡ repaired whole → IsAnswer (frames_of infos_of inputs x found)
 frames_answered whole inputs x found is =
     let (info, info_is) = readable_repaired whole inputs.type_inputs.modules (function_module found) in

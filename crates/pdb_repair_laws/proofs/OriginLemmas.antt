@@ -11,13 +11,13 @@ use Rattle.pdb_records.specs.declared.ids.IdIndex.{IdIndex}
 use Rattle.pdb_records.specs.declared.lines.LineInfo.{LineInfo}
 use Rattle.pdb_records.specs.declared.lines.SymbolLines.{SymbolLines}
 use Rattle.pdb_records.specs.declared.modules.ModuleInfo.{ModuleInfo}
-use Rattle.pdb_functions.specs.FoundFunctions.{FoundFunction, found_procedure, found_global, function_start}
+use Rattle.pdb_functions.specs.FunctionMatches.{FunctionMatch, found_procedure, found_global, function_start}
 use Rattle.pdb_inline.specs.InlineRanges.{inline_ranges}
 use Rattle.pdb_inline.specs.InlineStacks.{inline_stack}
 use Rattle.pdb_inline.specs.Sites.{walk}
 use Rattle.pdb_frames.specs.ExtendedInfo.{inlinee_ids}
 use Rattle.pdb_frames.specs.Lines.{function_rows, row_over}
-use Rattle.pdb_frames.specs.Origins.{origin, function_ranges}
+use Rattle.pdb_frames.specs.CodeLocations.{code_location, function_ranges}
 use Rattle.pdb_repairs.specs.Repaired.{repaired_entry, repaired_lines, repaired_module, repaired_program, repaired_rows}
 use Rattle.pdb_repair_laws.proofs.WalkLemmas.{meets_no_fault}
 
@@ -70,7 +70,7 @@ lines_answered (Err fault) start = record {
 }
 
 -- the ranges of a function are answered
-ranges_answered : (inlinees : List IdIndex) (info : ModuleInfo) (found : FoundFunction)
+ranges_answered : (inlinees : List IdIndex) (info : ModuleInfo) (found : FunctionMatch)
     → IsAnswer (function_ranges inlinees (repaired_module info) found)
 ranges_answered inlinees info (found_global m f) = ([], refl)
 ranges_answered inlinees info (found_procedure m p) =
@@ -81,8 +81,8 @@ ranges_answered inlinees info (found_procedure m p) =
     )
 
 -- where code comes from is answered
-pub origin_answered : (info : ModuleInfo) (found : FoundFunction) (x : ℕ)
-    → IsAnswer (origin (repaired_module info) found x)
+pub origin_answered : (info : ModuleInfo) (found : FunctionMatch) (x : ℕ)
+    → IsAnswer (code_location (repaired_module info) found x)
 origin_answered info found x =
     let lines = lines_answered info.line_program (function_start found) in
     let (rows, rows_are) = lines.rows in

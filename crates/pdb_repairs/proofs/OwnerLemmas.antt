@@ -37,7 +37,7 @@ last_of_painted byte before (c ∷ cs) =
 smaller_test : (a b : Claim) → is_smaller a b ≡ nat_lt (size_of a) (size_of b)
 smaller_test a b = less_test (size_of a) (size_of b)
 
--- a claim that isn't greater than what is last stays behind it
+-- a claim that isn't greater than what is last stays after it
 pub last_stays : (byte : ℕ) (c : Claim) (before : Option Claim) (zs : List Claim)
     → AllByRecursion (λ z. is_smaller z c ≡ false) zs → is_greater before c ≡ false
     → greater_over byte (last_over (has_byte byte) before zs) c ≡ last_over (has_byte byte) before zs

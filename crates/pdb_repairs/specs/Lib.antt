@@ -1,5 +1,5 @@
 pub mod Repairs
-pub mod InlineRows
+pub mod RowFaults
 pub mod Repaired
 pub mod Claims
 pub mod Intervals

@@ -12,12 +12,14 @@ use Rattle.pdb_records.specs.declared.lines.LineInfo.{LineInfo}
 use Rattle.pdb_records.specs.declared.lines.SymbolLines.{SymbolLines}
 use Rattle.pdb_records.specs.declared.modules.ModuleInfo.{ModuleInfo}
 use Rattle.pdb_records.specs.declared.symbols.SymbolTable.{SymbolTable}
+use Rattle.pdb_records.specs.declared.types.ItemInformation.{ItemInformation}
 use Rattle.pdb_repairs.specs.Claims.{repairs_of_claims, with_retained}
-use Rattle.pdb_repairs.specs.InlineRows.{inline_rows, row_faults}
+use Rattle.pdb_repairs.specs.RowFaults.{inline_rows, row_faults}
 use Rattle.pdb_repairs.specs.Repairs.{without_fault}
 use Rattle.pdb_repairs.specs.declared.repairs.Repair.{Repair}
 use Rattle.pdb_repairs.specs.declared.repairs.Repair.TheVariants.{Contributions, GlobalSymbols, Inlinees}
-use Rattle.pdb_repairs.specs.declared.repairs.Repair.TheVariants.{Lines as LinesLost, Module, Modules, Symbols}
+use Rattle.pdb_repairs.specs.declared.repairs.Repair.TheVariants.{Lines as LinesLost, Module, Modules, NoGlobalSymbols}
+use Rattle.pdb_repairs.specs.declared.repairs.Repair.TheVariants.{NoIds, NoTypes, Symbols}
 
 -- the records of a module, nothing where the module has none, or why they can't be read
 abbrev pub ModuleOrFault : Type 0
@@ -92,15 +94,26 @@ abbrev pub repairs_from : ℕ → List ModuleOrFault → List Repair
 repairs_from module_index [] = []
 repairs_from module_index (read ∷ reads) = repairs_of_read module_index read ++ repairs_from (module_index + 1) reads
 
--- the public symbols up to their fault, where they were read
+-- the public symbols up to their fault, and none where they can't be read
 abbrev pub repaired_symbols : Result SymbolTable StreamError → Result SymbolTable StreamError
 repaired_symbols (Ok table) = Ok (record table { symbols = without_fault table.symbols })
-repaired_symbols (Err fault) = Err fault
+repaired_symbols (Err fault) = Ok (record { symbols = record { items = []; fault = None } })
 
 -- what is told of the public symbols
 abbrev pub repairs_of_symbols : Result SymbolTable StreamError → List Repair
 repairs_of_symbols (Ok table) = told GlobalSymbols table.symbols.fault
-repairs_of_symbols (Err fault) = []
+repairs_of_symbols (Err fault) = NoGlobalSymbols fault ∷ []
+
+-- the types, or the ids, of a program, and none where they can't be read
+abbrev pub repaired_items : {I D : Type 0} → Result (ItemInformation I D) StreamError
+    → Result (ItemInformation I D) StreamError
+repaired_items (Ok information) = Ok information
+repaired_items (Err fault) = Ok (record { items = record { items = []; fault = None } })
+
+-- why a part can't be read
+abbrev pub unread_fault : {A : Type 0} → Result A StreamError → Option StreamError
+unread_fault (Ok part) = None
+unread_fault (Err fault) = Some fault
 
 -- the lists of modules and of contributions up to their faults
 abbrev pub repaired_lists : DebugInformation → DebugInformation
@@ -144,19 +157,23 @@ abbrev pub repairs_of_debug_information : Result (Option (List ImageSectionHeade
 repairs_of_debug_information sections (Ok debug) = repairs_of_debug sections debug
 repairs_of_debug_information sections (Err fault) = []
 
--- records of which all can be read but what could not be read as a whole: public symbols, lists of modules and of
--- contributions, and modules are repaired, and all else stays
+-- records without what is broken in them: public symbols, types, ids, lists of modules and of contributions, and
+-- modules are repaired, and all else stays
 abbrev pub repaired : Records → Records
 repaired records = record records {
   global_symbols = repaired_symbols records.global_symbols;
   debug_information = repaired_debug_information records.sections records.debug_information;
+  type_information = repaired_items records.type_information;
+  id_information = repaired_items records.id_information;
   module_infos = map repaired_read records.module_infos;
 }
 
--- what is told of records but their modules: of public symbols, and of what was compiled into the program
+-- what is told of records but their modules: of public symbols, types and ids, and of what was compiled into the program
 abbrev pub repairs_of_front : Records → List Repair
 repairs_of_front records =
     repairs_of_symbols records.global_symbols
+    ++ told NoTypes (unread_fault records.type_information)
+    ++ told NoIds (unread_fault records.id_information)
     ++ repairs_of_debug_information records.sections records.debug_information
 
 -- what is told of records that are repaired, of their modules last

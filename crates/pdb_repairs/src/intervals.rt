@@ -72,7 +72,7 @@ fn owners(alloc: Global, claims: &[Claim]) -> Result<Segments<usize>, AllocError
 {
     let sorted = by_size(alloc, claims)?;
     let segments = segments_of(alloc, &sorted)?;
-    Segments::of_painted(alloc, &segments)
+    Segments::from_overlapping(alloc, &segments)
 }
 
 // Where claims begin and end, ascending.

@@ -10,11 +10,11 @@
 #![tactic(auto)]
 
 mod claims;
-mod inline_rows;
 mod intervals;
-mod module_records;
+mod module_repairs;
 mod overlaps;
 mod repairs;
 mod retained;
+mod row_faults;
 
 pub use repairs::{Repair, repair_module_info, repair_records};

@@ -1,18 +1,19 @@
 //! What is taken out of the records of a program, each with its fault.
 
-ghost use Rattle.std.specs.Prelude.{◌≡◌, ◌++◌, map, IfOk, OnOk};
+ghost use Rattle.std.specs.Prelude.{◌≡◌, [], ◌++◌, None, map, IfOk, OnOk};
 ghost use Rattle.pdb_records.specs.Sections.{listed};
 ghost use Rattle.pdb_repairs.specs.Repaired.{repaired, repaired_debug, repaired_debug_information, repaired_lists};
-ghost use Rattle.pdb_repairs.specs.Repaired.{repaired_read, repaired_symbols, repairs_from, repairs_of};
-ghost use Rattle.pdb_repairs.specs.Repaired.{repairs_of_contributions, repairs_of_debug};
-ghost use Rattle.pdb_repairs.specs.Repaired.{repairs_of_debug_information, repairs_of_lists, repairs_of_read};
-ghost use Rattle.pdb_repairs.specs.Repaired.{repairs_of_symbols, told, with_kept};
+ghost use Rattle.pdb_repairs.specs.Repaired.{repaired_items, repaired_read, repaired_symbols, repairs_from};
+ghost use Rattle.pdb_repairs.specs.Repaired.{repairs_of, repairs_of_contributions, repairs_of_debug};
+ghost use Rattle.pdb_repairs.specs.Repaired.{repairs_of_debug_information, repairs_of_lists};
+ghost use Rattle.pdb_repairs.specs.Repaired.{repairs_of_read, repairs_of_symbols, told, unread_fault, with_kept};
 ghost use Rattle.pdb_repairs.specs.Repairs.{without_fault};
 
-use crate::module_records::repair_module;
+use crate::module_repairs::repair_module;
 use crate::retained::retain_claims;
 use pdb_records::{
-    DebugInformation, ImageSectionHeader, ModuleInfo, PDB, Reading, StreamError, SymbolTable,
+    DebugInformation, ImageSectionHeader, ItemInformation, ModuleInfo, PDB, Reading, StreamError,
+    SymbolTable,
 };
 use std::alloc::{AllocError, Global};
 
@@ -21,6 +22,12 @@ use std::alloc::{AllocError, Global};
 pub enum Repair {
     /// The public symbols end early. Those before are answered.
     GlobalSymbols(StreamError),
+    /// The public symbols can't be read. Procedures of modules are answered.
+    NoGlobalSymbols(StreamError),
+    /// The types can't be read. Functions go by the names of their symbols.
+    NoTypes(StreamError),
+    /// The ids can't be read. Inlined functions have no name, and are answered with their files and lines.
+    NoIds(StreamError),
     /// The list of modules ends early. Those before are answered.
     Modules(StreamError),
     /// The list of contributions ends early. Those before are answered.
@@ -66,7 +73,13 @@ pub fn repair_records(alloc: Global, records: &mut PDB) -> Result<Vec<Repair>, A
     ensures answer { IfOk result (λ v. v.items ≡ repairs_of records.old) }
 {
     let mut repairs = Vec::new(alloc);
-    repair_global_symbols(&mut records.global_symbols, &mut repairs)?;
+    repair_global_symbols(alloc, &mut records.global_symbols, &mut repairs)?;
+    if let Some(fault) = take_unread(alloc, &mut records.type_information) {
+        repairs.push(Repair::NoTypes(fault))?;
+    }
+    if let Some(fault) = take_unread(alloc, &mut records.id_information) {
+        repairs.push(Repair::NoIds(fault))?;
+    }
     repair_debug_information(
         alloc,
         &records.sections,
@@ -117,8 +130,9 @@ fn repair_all(
     Ok(())
 }
 
-// Repairs the public symbols, where they were read.
+// Repairs the public symbols. There are none where they can't be read.
 fn repair_global_symbols(
+    alloc: Global,
     read: &mut Result<SymbolTable, StreamError>,
     repairs: &mut Vec<Repair>,
 ) -> Result<(), AllocError>
@@ -127,7 +141,41 @@ fn repair_global_symbols(
 {
     match read {
         Ok(table) => tell_symbols(take_fault(&mut table.symbols), repairs),
-        Err(_) => Ok(()),
+        Err(fault) => {
+            repairs.push(Repair::NoGlobalSymbols(*fault))?;
+            *read = Ok(SymbolTable {
+                symbols: no_items(alloc),
+            });
+            Ok(())
+        }
+    }
+}
+
+// Puts an empty list in place of types, or of ids, that can't be read, and answers why they can't.
+fn take_unread<I: Drop, D: Drop>(
+    alloc: Global,
+    read: &mut Result<ItemInformation<I, D>, StreamError>,
+) -> Option<StreamError>
+    ensures answer { result ≡ unread_fault read.old }
+    ensures state { read.new ≡ repaired_items read.old }
+{
+    let fault = match read {
+        Ok(_) => return None,
+        Err(fault) => *fault,
+    };
+    *read = Ok(ItemInformation {
+        items: no_items(alloc),
+    });
+    Some(fault)
+}
+
+// A list without items that was read whole.
+fn no_items<T>(alloc: Global) -> Reading<T>
+    ensures { result ≡ record { items = []; fault = None } }
+{
+    Reading {
+        items: Vec::new(alloc),
+        fault: None,
     }
 }
 
@@ -203,7 +251,7 @@ fn repair_lists(debug: &mut DebugInformation, repairs: &mut Vec<Repair>) -> Resu
     Ok(())
 }
 
-/// Has a reading end behind what was read, and answers why it ended there, if it was for a fault.
+/// Has a reading end after what was read, and answers why it ended there, if it was for a fault.
 pub fn take_fault<T>(reading: &mut Reading<T>) -> Option<StreamError>
     ensures answer { result ≡ reading.old.fault }
     ensures state { reading.new ≡ without_fault reading.old }

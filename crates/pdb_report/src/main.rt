@@ -6,7 +6,7 @@
 #![tactic(auto)]
 
 use pdb_addr2line::Error;
-use pdb_report_lib::{Out, Stop, ran_out_of_memory, run};
+use pdb_report_lib::{CommandError, Out, ran_out_of_memory, run};
 use std::io::BufWriter;
 use std::process::ExitCode;
 use std::rt::Env;
@@ -18,7 +18,7 @@ fn main(rt: HostRuntime) -> ExitCode {
         Err(stop) => return print_stop(&rt, &stop),
     };
     let Ok(writer) = BufWriter::new(rt.alloc(), io::writer(&rt)) else {
-        return print_stop(&rt, &Stop::Refused(Error::OutOfMemory));
+        return print_stop(&rt, &CommandError::Refused(Error::OutOfMemory));
     };
     match run(&rt, &words, &mut Out::new(writer)) {
         Ok(()) => ExitCode::SUCCESS,
@@ -27,20 +27,22 @@ fn main(rt: HostRuntime) -> ExitCode {
 }
 
 // The words of the command line. Words that are no text ask for nothing.
-fn words<R: Env + AllocGlobal>(rt: &R) -> Result<Vec<String>, Stop<'static>> {
+fn words<R: Env + AllocGlobal>(rt: &R) -> Result<Vec<String>, CommandError<'static>> {
     let words = match env::args(rt) {
         Ok(words) => words,
-        Err(error) if ran_out_of_memory(&error) => return Err(Stop::Refused(Error::OutOfMemory)),
-        Err(_) => return Err(Stop::Usage),
+        Err(error) if ran_out_of_memory(&error) => return Err(CommandError::Refused(
+            Error::OutOfMemory,
+        )),
+        Err(_) => return Err(CommandError::Usage),
     };
     match words.collect(rt.alloc()) {
         Ok(words) => Ok(words),
-        Err(_) => Err(Stop::Refused(Error::OutOfMemory)),
+        Err(_) => Err(CommandError::Refused(Error::OutOfMemory)),
     }
 }
 
 // Prints why the program ended early, and gives its status.
-fn print_stop<R: Eprint>(rt: &R, stop: &Stop<'_>) -> ExitCode {
+fn print_stop<R: Eprint>(rt: &R, stop: &CommandError<'_>) -> ExitCode {
     let _ = eprintln!(rt; "{stop}");
     ExitCode::from(stop.status())
 }

@@ -1,13 +1,13 @@
 -- The text of a report is that of the answers to a list of calls.
 use Rattle.std.proofs.Common.{◌≡◌, ◌∙◌, ℕ, List, [], ◌∷◌, ◌++◌, map, refl, sym, ap, append-nil}
 use Rattle.std.specs.Prelude.{Option, Result, Ok, Err}
-use Rattle.pdb_errors.specs.Provided.{ProviderInfos}
+use Rattle.pdb_records.specs.Provided.{ProviderInfos}
 use Rattle.pdb_errors.specs.declared.error.Error.{Error}
 use Rattle.pdb_errors.specs.Outcomes.{and_then}
 use Rattle.pdb_frames.specs.Frame.{FramesInfo}
 use Rattle.pdb_addr2line.specs.declared.calls.Call.TheVariants.{FindFunction, FindFrames}
 use Rattle.pdb_addr2line.specs.Calls.{FramesView, answers_to, after_frames}
-use Rattle.pdb_addr2line.specs.Functions.{after_function, functions_of}
+use Rattle.pdb_addr2line.specs.FunctionIter.{after_function, functions_of}
 use Rattle.pdb_addr2line.specs.Lookups.{function_at, frames_at, frames_answered, blamed_at, code_failed_after}
 use Rattle.pdb_addr2line.specs.ContextInputs.{ContextState}
 use Rattle.pdb_report_lib.specs.declared.reports.Command.{Command}

@@ -4,7 +4,7 @@ use Rattle.std.specs.Prelude.{Option, Result, Ok, Err, OnOk, IfErr, fold}
 use Rattle.std.proofs.lemmas.List.{take_more}
 use Rattle.std.proofs.lemmas.List.Sums.{fold-append}
 use Rattle.std.proofs.lemmas.Option.{slice_get-get_or}
-use Rattle.pdb_errors.specs.Provided.{ProviderInfos}
+use Rattle.pdb_records.specs.Provided.{ProviderInfos}
 use Rattle.pdb_errors.specs.declared.error.Error.{Error}
 use Rattle.pdb_errors.specs.declared.error.Error.TheVariants.{OutOfMemory}
 use Rattle.pdb_errors.specs.Outcomes.{Gives}
@@ -14,7 +14,7 @@ use Rattle.pdb_frames.specs.CodeParts.{CodeParts}
 use Rattle.pdb_types.specs.FailedParts.{Parts}
 use Rattle.pdb_addr2line.specs.declared.calls.Call.TheVariants.{FindFunction, FindFrames}
 use Rattle.pdb_addr2line.specs.Calls.{after_frames, after_calls}
-use Rattle.pdb_addr2line.specs.Functions.{after_function, after_functions, OnlyGainsBroken, IsCutShort}
+use Rattle.pdb_addr2line.specs.FunctionIter.{after_function, after_functions, OnlyGainsBroken, IsCutShort}
 use Rattle.pdb_frames.specs.Frame.{FramesInfo}
 use Rattle.pdb_addr2line.specs.Lookups.{failed_after_frames, code_failed_after, frames_at, frames_answered, blamed_at}
 use Rattle.pdb_addr2line.specs.ContextInputs.{ContextInputs, ContextState}

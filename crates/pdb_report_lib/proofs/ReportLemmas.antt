@@ -22,7 +22,7 @@ grows_more None between after xs ys first second = tt
 grows_more (Some held) between after xs ys first second =
     let next : Grows (Some (held ++ xs)) after ys = rw first at second in next ∙ ap Some (append_assoc held xs ys)
 
--- bytes that stay have nothing behind them
+-- bytes that stay have nothing after them
 grows_none : (held : Option (List ℕ)) → Grows held held []
 grows_none None = tt
 grows_none (Some held) = ap Some (sym (append-nil held))
@@ -47,7 +47,7 @@ takes_both before between after (Ok xs) (Ok ys) one other = takes_more before be
 takes_both before between after (Ok xs) (Err e) one other = absurd other
 takes_both before between after (Err e) second one other = absurd one
 
--- a text with nothing behind it
+-- a text with nothing after it
 text_alone : (first : Result (List ℕ) Error) → and_then first (λ text. Ok (text ++ [])) ≡ first
 text_alone (Ok text) = ap Ok (append-nil text)
 text_alone (Err e) = refl

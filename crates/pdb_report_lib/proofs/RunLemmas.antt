@@ -3,19 +3,19 @@ use Rattle.std.proofs.Common.{◌≡◌, ℕ, List, Result, Ok, Err, Some, inl, 
 use Rattle.std.specs.Io.KnownBytes.{Keeps}
 use Rattle.serde_json.specs.Data.{Data}
 use Rattle.pdb_records.specs.Records.{Records}
-use Rattle.pdb_json_values.specs.declared.faults.RecordFault.{RecordFault}
+use Rattle.pdb_json_values.specs.declared.record_fault.RecordFault.{RecordFault}
 use Rattle.pdb_json.specs.RecordsFile.{value_of, records_of, records_of_files}
-use Rattle.pdb_json_values.specs.Faults.{IsFaultOf}
+use Rattle.pdb_json_values.specs.RecordFault.{IsFaultOf}
 use Rattle.pdb_json.proofs.TextLemmas.{text_shows_no_modules, wanted_by_text, records_by_text}
-use Rattle.pdb_report_lib.specs.declared.stops.Stop.{Stop}
-use Rattle.pdb_report_lib.specs.declared.stops.Stop.TheVariants.{Refused, Usage, CannotRead, CannotReadModule}
-use Rattle.pdb_report_lib.specs.declared.stops.Stop.TheVariants.{CannotWrite}
-use Rattle.pdb_report_lib.specs.declared.stops.Stop.TheVariants as stop
-use Rattle.pdb_report_lib.specs.Arguments.{Asked}
+use Rattle.pdb_report_lib.specs.declared.command_error.CommandError.{CommandError}
+use Rattle.pdb_report_lib.specs.declared.command_error.CommandError.TheVariants.{Refused, Usage, CannotRead, CannotReadModule}
+use Rattle.pdb_report_lib.specs.declared.command_error.CommandError.TheVariants.{CannotWrite}
+use Rattle.pdb_report_lib.specs.declared.command_error.CommandError.TheVariants as stop
+use Rattle.pdb_report_lib.specs.ReportArguments.{Asked}
 use Rattle.pdb_report_lib.specs.ReportRuns.{AreModuleReadStops, EndsOverSomeFile, StopsWithoutModules}
 use Rattle.pdb_report_lib.specs.ReportRuns.{StopsAsked, EndsRun}
 use Rattle.pdb_report_lib.specs.Sinks.{SinkState}
-use Rattle.pdb_report_lib.specs.Stops.{Ends, EndsOverFile}
+use Rattle.pdb_report_lib.specs.CommandError.{Ends, EndsOverFile}
 
 -- a run stops at the fault of a text
 pub text_stops_the_run : (asked : Asked) (sink : SinkState) (bytes : List ℕ) (fault : RecordFault)
@@ -25,7 +25,7 @@ text_stops_the_run asked sink bytes fault refused =
 
 -- a run stops where the module files of a text's value can't be read
 pub module_files_stop_the_run : (A : Type 0) (asked : Asked) (sink : SinkState) (bytes : List ℕ) (value : Data)
-    (why : Stop) → value_of bytes ≡ Ok value → AreModuleReadStops asked.path value why
+    (why : CommandError) → value_of bytes ≡ Ok value → AreModuleReadStops asked.path value why
     → StopsAsked A asked sink sink why
 module_files_stop_the_run A asked sink bytes value (CannotReadModule shown) is_value stops =
     record { bytes = bytes; shown = rw (wanted_by_text bytes value is_value) stops; same = refl }
@@ -43,7 +43,7 @@ module_files_stop_the_run A asked sink bytes value CannotWrite is_value stops = 
 
 -- a run that ends over what was read ends over some file
 stops_over : {A : Type 0} (asked : Asked) (before written after : SinkState) (read : Result Records RecordFault)
-    (why : Stop)
+    (why : CommandError)
     → Ends {A = A} asked.path asked.command asked.addresses read before written (Err why)
     → EndsOverSomeFile {A = A} asked before after (Err why) → StopsAsked A asked before after why
 stops_over asked before written after read (Refused error) ends over = inr over
@@ -58,7 +58,7 @@ stops_over asked before written after (Err fault) Usage ends over = absurd ends
 
 -- what a run ends with over a text's value it ends with over the text
 pub ends_over_text : {A : Type 0} (asked : Asked) (before written : SinkState) (bytes : List ℕ) (files : List (List ℕ))
-    (value : Data) (result : Result A Stop) → value_of bytes ≡ Ok value
+    (value : Data) (result : Result A CommandError) → value_of bytes ≡ Ok value
     → EndsOverFile asked.path asked.command asked.addresses (records_of files value) before written result
     → EndsOverFile asked.path asked.command asked.addresses (records_of_files bytes files) before written result
 ends_over_text asked before written bytes files value result is_value ends =
@@ -66,7 +66,7 @@ ends_over_text asked before written bytes files value result is_value ends =
 
 -- a run ends as it does over a text's value, once what the sink holds back is handed on
 pub run_ends_over_value : {A : Type 0} (asked : Asked) (before written after : SinkState) (bytes : List ℕ)
-    (files : List (List ℕ)) (value : Data) (result : Result A Stop) → value_of bytes ≡ Ok value
+    (files : List (List ℕ)) (value : Data) (result : Result A CommandError) → value_of bytes ≡ Ok value
     → EndsOverFile asked.path asked.command asked.addresses (records_of files value) before written result
     → Keeps written.held after.held → after.failed ≡ written.failed → EndsRun (Some asked) before after result
 run_ends_over_value asked before written after bytes files value (Ok done) is_value ends same unchanged =

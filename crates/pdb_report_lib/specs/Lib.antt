@@ -2,8 +2,8 @@ pub mod Sinks
 pub mod PrintedLines
 pub mod PrintedFrames
 pub mod Reports
-pub mod Arguments
+pub mod ReportArguments
 pub mod FileReports
-pub mod Stops
+pub mod CommandError
 pub mod ReportRuns
 pub mod AnswerTexts

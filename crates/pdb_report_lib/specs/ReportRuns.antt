@@ -2,28 +2,28 @@
 use Rattle.std.specs.Prelude.{◌≡◌, ◌⊎◌, true, List, ℕ, Option, Some, None, Result, Ok, Err, string_bytes}
 use Rattle.std.specs.Io.KnownBytes.{Keeps}
 use Rattle.pdb_errors.specs.declared.error.Error.TheVariants.{OutOfMemory}
-use Rattle.pdb_json_values.specs.declared.faults.RecordFault.{RecordFault}
-use Rattle.pdb_json_values.specs.Faults.{IsFaultOf}
+use Rattle.pdb_json_values.specs.declared.record_fault.RecordFault.{RecordFault}
+use Rattle.pdb_json_values.specs.RecordFault.{IsFaultOf}
 use Rattle.serde_json.specs.Data.{Data}
 use Rattle.pdb_json.specs.RecordsFile.{records_of_files, wanted_files_of, module_files_of}
 use Rattle.pdb_records_files.specs.ModuleFiles.{IsWantedPath}
-use Rattle.pdb_report_lib.specs.declared.stops.Stop.{Stop}
-use Rattle.pdb_report_lib.specs.declared.stops.Stop.TheVariants.{Refused, Usage, CannotRead}
-use Rattle.pdb_report_lib.specs.declared.stops.Stop.TheVariants.{CannotReadModule, CannotWrite}
-use Rattle.pdb_report_lib.specs.declared.stops.Stop.TheVariants as stop
-use Rattle.pdb_report_lib.specs.Stops.{EndsOverFile}
+use Rattle.pdb_report_lib.specs.declared.command_error.CommandError.{CommandError}
+use Rattle.pdb_report_lib.specs.declared.command_error.CommandError.TheVariants.{Refused, Usage, CannotRead}
+use Rattle.pdb_report_lib.specs.declared.command_error.CommandError.TheVariants.{CannotReadModule, CannotWrite}
+use Rattle.pdb_report_lib.specs.declared.command_error.CommandError.TheVariants as stop
+use Rattle.pdb_report_lib.specs.CommandError.{EndsOverFile}
 use Rattle.pdb_report_lib.specs.Sinks.{SinkState}
-use Rattle.pdb_report_lib.specs.Arguments.{Asked}
+use Rattle.pdb_report_lib.specs.ReportArguments.{Asked}
 
 -- a file can't be read, and is shown by its path; or memory ran out
-abbrev pub IsReadStop : List ℕ → Stop → Type 0
+abbrev pub IsReadStop : List ℕ → CommandError → Type 0
 IsReadStop path (CannotRead shown) = shown.now ≡ path
 IsReadStop path (Refused error) = error ≡ OutOfMemory
 IsReadStop path other = ⊥
 
 -- a module file that a records file with this value wants can't be read, and is shown by its path; or the value shows
 -- no module files; or memory ran out
-abbrev pub AreModuleReadStops : List ℕ → Data → Stop → Type 0
+abbrev pub AreModuleReadStops : List ℕ → Data → CommandError → Type 0
 AreModuleReadStops records_path value (CannotReadModule shown) =
     IsWantedPath records_path (wanted_files_of value) (string_bytes shown)
 AreModuleReadStops records_path value (Refused error) = error ≡ OutOfMemory
@@ -32,13 +32,13 @@ AreModuleReadStops records_path value (stop.Records shown fault) =
 AreModuleReadStops records_path value other = ⊥
 
 -- why a run ends early whose words ask for nothing: memory ran out, or it shows how to ask; the sink is as it was
-abbrev pub StopsUnasked : SinkState → SinkState → Stop → Type 0
+abbrev pub StopsUnasked : SinkState → SinkState → CommandError → Type 0
 StopsUnasked before after Usage = after ≡ before
 StopsUnasked before after (Refused error) = (error ≡ OutOfMemory) × (after ≡ before)
 StopsUnasked before after other = ⊥
 
 -- a run ends as it does over the bytes of some file and of its module files, and what the sink holds back is handed on
-pub record EndsOverSomeFile {A : Type 0} (asked : Asked) (before after : SinkState) (result : Result A Stop)
+pub record EndsOverSomeFile {A : Type 0} (asked : Asked) (before after : SinkState) (result : Result A CommandError)
     : Type 0 where
   pub bytes : List ℕ
   pub files : List (List ℕ)
@@ -53,7 +53,7 @@ pub record EndsAtFlush (A : Type 0) (asked : Asked) (before after : SinkState) :
   pub bytes : List ℕ
   pub files : List (List ℕ)
   pub written : SinkState
-  pub ended : Result A Stop
+  pub ended : Result A CommandError
   pub ends : EndsOverFile asked.path asked.command asked.addresses (records_of_files bytes files)
       before written ended
   pub same : Keeps written.held after.held
@@ -75,7 +75,7 @@ pub record StopsAtModule (asked : Asked) (before after : SinkState) (path : List
 
 -- why a run ends early whose words ask for something: a file can't be read, and is shown by its path, or memory runs
 -- out before a text is written; or it ends over what the files hold; or the sink refuses to hand the texts on
-abbrev pub StopsAsked : Type 0 → Asked → SinkState → SinkState → Stop → Type 0
+abbrev pub StopsAsked : Type 0 → Asked → SinkState → SinkState → CommandError → Type 0
 StopsAsked A asked before after Usage = ⊥
 StopsAsked A asked before after (Refused error) =
     ((error ≡ OutOfMemory) × (after ≡ before)) ⊎ EndsOverSomeFile {A = A} asked before after (Err (Refused error))
@@ -89,7 +89,7 @@ StopsAsked A asked before after CannotWrite =
     EndsOverSomeFile {A = A} asked before after (Err CannotWrite) ⊎ EndsAtFlush A asked before after
 
 -- how a run ends, by what its words ask for
-abbrev pub EndsRun : {A : Type 0} → Option Asked → SinkState → SinkState → Result A Stop → Type 0
+abbrev pub EndsRun : {A : Type 0} → Option Asked → SinkState → SinkState → Result A CommandError → Type 0
 EndsRun None before after (Ok done) = ⊥
 EndsRun None before after (Err why) = StopsUnasked before after why
 EndsRun (Some asked) before after (Ok done) = EndsOverSomeFile asked before after (Ok done)

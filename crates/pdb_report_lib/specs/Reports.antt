@@ -4,12 +4,12 @@ use Rattle.std.specs.Prelude.{Some, Result, Ok, Err, length, take, map, slice_ge
 use Rattle.pdb_errors.specs.declared.error.Error.{Error}
 use Rattle.pdb_errors.specs.declared.error.Error.TheVariants.{OutOfMemory}
 use Rattle.pdb_errors.specs.Outcomes.{and_then}
-use Rattle.pdb_errors.specs.Provided.{ProviderInfos}
+use Rattle.pdb_records.specs.Provided.{ProviderInfos}
 use Rattle.pdb_function_info.specs.Function.{FunctionInfo}
 use Rattle.pdb_addr2line.specs.declared.calls.Call.{Call}
 use Rattle.pdb_addr2line.specs.declared.calls.Call.TheVariants.{FindFunction, FindFrames, Functions}
 use Rattle.pdb_addr2line.specs.Calls.{after_frames, after_calls}
-use Rattle.pdb_addr2line.specs.Functions.{functions_of, start_addresses, IsCutShort, OnlyGainsBroken}
+use Rattle.pdb_addr2line.specs.FunctionIter.{functions_of, start_addresses, IsCutShort, OnlyGainsBroken}
 use Rattle.pdb_frames.specs.CodeParts.{CodeParts}
 use Rattle.pdb_addr2line.specs.Lookups.{function_at, frames_at, blamed_at, answered_refusal}
 use Rattle.pdb_addr2line.specs.ContextInputs.{ContextInputs, ContextState}

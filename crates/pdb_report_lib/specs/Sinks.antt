@@ -6,7 +6,7 @@ pub record SinkState : Type 0 where
   pub held : Option (List ℕ)
   pub failed : Bool
 
--- bytes that are shown have these behind them afterwards
+-- bytes that are shown have these after them afterwards
 abbrev pub Grows : Option (List ℕ) → Option (List ℕ) → List ℕ → Type 0
 Grows None after bytes = Unit {0}
 Grows (Some held) after bytes = after ≡ Some (held ++ bytes)

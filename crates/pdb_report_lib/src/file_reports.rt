@@ -6,12 +6,12 @@ ghost use Rattle.pdb_addr2line.specs.ContextData.{default_flags, context_of};
 ghost use Rattle.pdb_json.specs.RecordsFile.{records_of};
 ghost use Rattle.serde_json.specs.View.{view};
 ghost use Rattle.pdb_report_lib.specs.FileReports.{opened, TakesTexts, EndsOver};
-ghost use Rattle.pdb_report_lib.specs.Stops.{Ends, EndsOverFile};
+ghost use Rattle.pdb_report_lib.specs.CommandError.{Ends, EndsOverFile};
 
-use crate::arguments::Request;
+use crate::command_error::CommandError;
+use crate::report_arguments::ReportArguments;
 use crate::reports::{ReportFault, report};
 use crate::sinks::Sink;
-use crate::stops::Stop;
 use pdb_addr2line::ContextPdbData;
 use pdb_addr2line::pdb::PDB;
 use pdb_json::{RecordFault, RecordsFile};
@@ -20,7 +20,7 @@ use std::alloc::Global;
 // Writes what a request asks for, over records whose streams were read.
 fn report_data<W: Sink>(
     alloc: Global,
-    request: &Request<'_>,
+    request: &ReportArguments<'_>,
     context_data: &ContextPdbData<'_>,
     sink: &mut W,
 ) -> Result<(), ReportFault>
@@ -42,7 +42,7 @@ fn report_data<W: Sink>(
 // Writes what a request asks for, over records.
 fn report_records<W: Sink>(
     alloc: Global,
-    request: &Request<'_>,
+    request: &ReportArguments<'_>,
     records: PDB,
     sink: &mut W,
 ) -> Result<(), ReportFault>
@@ -59,16 +59,16 @@ fn report_records<W: Sink>(
 ///
 /// # Errors
 ///
-/// [`Stop::Records`] with the path and the fault where the file holds no records, [`Stop::Refused`] where the
-/// records or an address are refused or memory ran out, and [`Stop::CannotWrite`] where the sink refused a text. The
+/// [`CommandError::Records`] with the path and the fault where the file holds no records, [`CommandError::Refused`] where the
+/// records or an address are refused or memory ran out, and [`CommandError::CannotWrite`] where the sink refused a text. The
 /// sink holds nothing of it then but the texts of the addresses before one that had an error, or for which there was
 /// no memory.
 pub fn report_read<'w, W: Sink>(
     alloc: Global,
-    request: &Request<'w>,
+    request: &ReportArguments<'w>,
     read: Result<PDB, RecordFault>,
     sink: &mut W,
-) -> Result<(), Stop<'w>>
+) -> Result<(), CommandError<'w>>
     ensures { Ends request.now.path.now request.now.command request.now.addresses.items read
         (W.state sink.old) (W.state sink.new) result }
 {
@@ -77,7 +77,7 @@ pub fn report_read<'w, W: Sink>(
             report_records(alloc, request, records, sink)?;
             Ok(())
         }
-        Err(fault) => Err(Stop::Records(request.path, fault)),
+        Err(fault) => Err(CommandError::Records(request.path, fault)),
     }
 }
 
@@ -88,11 +88,11 @@ pub fn report_read<'w, W: Sink>(
 /// As [`report_read`] for what is read of them.
 pub fn report_file<'w, W: Sink>(
     alloc: Global,
-    request: &Request<'w>,
+    request: &ReportArguments<'w>,
     file: RecordsFile,
     files: &[Vec<u8>],
     sink: &mut W,
-) -> Result<(), Stop<'w>>
+) -> Result<(), CommandError<'w>>
     ensures { EndsOverFile request.now.path.now request.now.command request.now.addresses.items
         (records_of (contents files.now) (view file.value))
         (W.state sink.old) (W.state sink.new) result }

@@ -1,20 +1,20 @@
 //! What the program `pdb_report` writes: the functions or the frames over addresses, or all functions.
 #![tactic(auto)]
 
-mod arguments;
+mod command_error;
 mod file_reports;
 mod printed_frames;
 mod printed_lines;
+mod report_arguments;
 pub mod report_laws;
 mod report_runs;
 mod reports;
 mod sinks;
-mod stops;
 
-pub use arguments::{Request, parse, parse_address};
+pub use command_error::CommandError;
 pub use file_reports::{report_file, report_read};
 pub use pdb_records_files::ran_out_of_memory;
+pub use report_arguments::{ReportArguments, parse, parse_address};
 pub use report_runs::run;
 pub use reports::{Command, ReportFault, report};
 pub use sinks::{Out, Sink, SinkFault};
-pub use stops::Stop;

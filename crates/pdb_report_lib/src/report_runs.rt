@@ -3,16 +3,16 @@
 ghost use Rattle.std.specs.Prelude.{IfErr, map, string_bytes};
 ghost use Rattle.serde_json.specs.Data.{Data};
 ghost use Rattle.pdb_records_files.specs.ModuleFiles.{AreModuleFileFaults};
-ghost use Rattle.pdb_report_lib.specs.Arguments.{asked};
+ghost use Rattle.pdb_report_lib.specs.ReportArguments.{asked};
 ghost use Rattle.pdb_report_lib.specs.ReportRuns.{EndsRun, IsReadStop, AreModuleReadStops};
 
-use crate::arguments::parse;
+use crate::command_error::CommandError;
 use crate::file_reports::report_file;
+use crate::report_arguments::parse;
 use crate::sinks::{Out, Sink};
-use crate::stops::Stop;
 use pdb_addr2line::Error;
 use pdb_json::RecordsFile;
-use pdb_records_files::{ModuleFileFault, ran_out_of_memory, read_module_files};
+use pdb_records_files::{ModuleFileError, ran_out_of_memory, read_module_files};
 use std::rt::Files;
 use std::{fs, io};
 
@@ -21,25 +21,25 @@ use std::{fs, io};
 ///
 /// # Errors
 ///
-/// Each [`Stop`]. Out of memory is [`Stop::Refused`], but over a records file [`Stop::Records`].
+/// Each [`CommandError`]. Out of memory is [`CommandError::Refused`], but over a records file [`CommandError::Records`].
 pub fn run<'w, R: Files + AllocGlobal, W: io::Write>(
     rt: &R,
     words: &'w [String],
     out: &mut Out<W>,
-) -> Result<(), Stop<'w>>
+) -> Result<(), CommandError<'w>>
     ensures { EndsRun (asked (map string_bytes words.now))
         (⟦<Out<W> as Sink>⟧.state out.old) (⟦<Out<W> as Sink>⟧.state out.new) result }
 {
     let Ok(request) = parse(rt.alloc(), words) else {
-        return Err(Stop::Refused(Error::OutOfMemory));
+        return Err(CommandError::Refused(Error::OutOfMemory));
     };
     let Some(request) = request else {
-        return Err(Stop::Usage);
+        return Err(CommandError::Usage);
     };
     let bytes = read_file(rt, request.path)?;
     let file = match RecordsFile::from_slice(rt.alloc(), &bytes) {
         Ok(file) => file,
-        Err(fault) => return Err(Stop::Records(request.path, fault)),
+        Err(fault) => return Err(CommandError::Records(request.path, fault)),
     };
     drop(bytes);
     let files = match read_module_files(rt, request.path, &file) {
@@ -49,28 +49,28 @@ pub fn run<'w, R: Files + AllocGlobal, W: io::Write>(
     let ended = report_file(rt.alloc(), &request, file, &files, out);
     match out.flush() {
         Ok(()) => ended,
-        Err(_) => Err(Stop::CannotWrite),
+        Err(_) => Err(CommandError::CannotWrite),
     }
 }
 
 // The bytes of the file at a path.
-fn read_file<'w, R: Files + AllocGlobal>(rt: &R, path: &'w str) -> Result<Vec<u8>, Stop<'w>>
+fn read_file<'w, R: Files + AllocGlobal>(rt: &R, path: &'w str) -> Result<Vec<u8>, CommandError<'w>>
     ensures { IfErr result (IsReadStop path.now) }
 {
     match fs::read(rt, path) {
         Ok(bytes) => Ok(bytes),
-        Err(error) if ran_out_of_memory(&error) => Err(Stop::Refused(Error::OutOfMemory)),
-        Err(_) => Err(Stop::CannotRead(path)),
+        Err(error) if ran_out_of_memory(&error) => Err(CommandError::Refused(Error::OutOfMemory)),
+        Err(_) => Err(CommandError::CannotRead(path)),
     }
 }
 
 // Why a run ends over a records file whose module files can't be read.
-fn module_stop(path: &str, fault: ModuleFileFault) -> Stop<'_>
+fn module_stop(path: &str, fault: ModuleFileError) -> CommandError<'_>
     ensures { (value : Data) → AreModuleFileFaults path.now value fault → AreModuleReadStops path.now value result }
 {
     match fault {
-        ModuleFileFault::OutOfMemory => Stop::Refused(Error::OutOfMemory),
-        ModuleFileFault::CannotRead(path) => Stop::CannotReadModule(path),
-        ModuleFileFault::Records(fault) => Stop::Records(path, fault),
+        ModuleFileError::OutOfMemory => CommandError::Refused(Error::OutOfMemory),
+        ModuleFileError::CannotRead(path) => CommandError::CannotReadModule(path),
+        ModuleFileError::Records(fault) => CommandError::Records(path, fault),
     }
 }

@@ -7,8 +7,8 @@ ghost use Rattle.pdb_addr2line.specs.declared.calls.Call.TheVariants.{FindFrames
 ghost use Rattle.pdb_errors.specs.Outcomes.{Gives};
 ghost use Rattle.pdb_addr2line.specs.Calls.{after_frames, after_calls};
 ghost use Rattle.pdb_addr2line.specs.Lookups.{frames_answered};
-ghost use Rattle.pdb_addr2line.specs.Functions.{functions_at, functions_of, start_addresses};
-ghost use Rattle.pdb_addr2line.specs.Functions.{after_function, after_functions, OnlyGainsBroken, IsCutShort};
+ghost use Rattle.pdb_addr2line.specs.FunctionIter.{functions_at, functions_of, start_addresses};
+ghost use Rattle.pdb_addr2line.specs.FunctionIter.{after_function, after_functions, OnlyGainsBroken, IsCutShort};
 ghost use Rattle.pdb_report_lib.specs.PrintedLines.{list_text};
 ghost use Rattle.pdb_report_lib.specs.Reports.{function_text, stack_text, addresses_text, report_text};
 ghost use Rattle.pdb_report_lib.specs.Reports.{TakesText, EndsAtOnce, EndsAmidTexts, EndsListEarly, EndsEarly};

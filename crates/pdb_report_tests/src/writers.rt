@@ -2,7 +2,7 @@
 
 use crate::cases::Case;
 use crate::words_of;
-use pdb_report_lib::{Out, Stop, run};
+use pdb_report_lib::{CommandError, Out, run};
 use std::alloc::Global;
 use std::io;
 use std::rt::Files;
@@ -121,5 +121,5 @@ fn is_refused<R: Files + AllocGlobal>(
 ) -> io::Result<bool> {
     let words = words_of(rt.alloc(), command)?;
     let ended = run(rt, &words, out);
-    Ok(matches!(ended, Err(Stop::CannotWrite)))
+    Ok(matches!(ended, Err(CommandError::CannotWrite)))
 }

@@ -5,7 +5,7 @@ use Rattle.std.proofs.lemmas.Bool.{cases_order}
 use Rattle.std.proofs.lemmas.List.Elements.{All-more, All-nil, All-weaker}
 use Rattle.pdb_msf.proofs.KnownLemmas.{if_file}
 use Rattle.pdb_msf.specs.Msf.{Msf, stream_of}
-use Rattle.pdb_msf.specs.StreamMap.{IfFile, MappedFile, with_bytes}
+use Rattle.pdb_msf.specs.MsfLayout.{IfFile, MappedFile, with_bytes}
 use Rattle.pdb_session.specs.FrontStreams.{HasStreams, KeepsStreams}
 
 -- what holds of the file, if it is known, holds of one that is known to be the file

@@ -24,21 +24,23 @@ use Rattle.pdb_types.specs.ForwardReferences.{size_for}
 use Rattle.pdb_msf.specs.declared.faults.TheConstants.{CUT}
 use Rattle.pdb_msf.specs.Faults.{◌>>=◌}
 use Rattle.pdb_msf.specs.NumberLists.{number, two_byte_number}
-use Rattle.pdb_tpi.specs.Aggregates.{class, enumerate, enumeration, is_forward_reference, newer_class, newer_union}
-use Rattle.pdb_tpi.specs.Aggregates.{sized_names, union}
+use Rattle.pdb_tpi.specs.AggregateLeaves.{alias, class, class2, enumerate, enumeration, is_forward_reference}
+use Rattle.pdb_tpi.specs.AggregateLeaves.{newer_union, sized_names, union}
 use Rattle.pdb_tpi.specs.Contents.{or_error}
 use Rattle.pdb_tpi.specs.IndexLists.{index_list}
-use Rattle.pdb_tpi.specs.Items.{TypeList, item_at, item_of}
-use Rattle.pdb_tpi.specs.Leaves.{lf_arglist, lf_array, lf_bitfield, lf_class, lf_class2, lf_enum, lf_enumerate}
+use Rattle.pdb_tpi.specs.ItemStreams.{TypeList, item_at, item_of}
+use Rattle.pdb_tpi.specs.Leaves.{lf_alias, lf_arglist, lf_array, lf_bitfield, lf_class, lf_class2, lf_dimarray}
+use Rattle.pdb_tpi.specs.Leaves.{lf_enum, lf_enumerate, lf_vtshape}
 use Rattle.pdb_tpi.specs.Leaves.{lf_fieldlist, lf_interface, lf_interface2, lf_methodlist, lf_mfunction, lf_modifier}
 use Rattle.pdb_tpi.specs.Leaves.{lf_pointer, lf_procedure, lf_structure, lf_structure2, lf_union, lf_union2, lf_vftable}
-use Rattle.pdb_tpi.specs.Numbers.{numeric_leaf, size_in}
+use Rattle.pdb_tpi.specs.NumericLeaves.{numeric_leaf, size_in}
 use Rattle.pdb_tpi.specs.TypeNames.{name_in}
 use Rattle.pdb_tpi.specs.TypePlaces.{defines_at}
 use Rattle.pdb_tpi.specs.TypeRecords.{TypeBytes}
-use Rattle.pdb_tpi.specs.Types.{argument_list, array, array_size, data_of, defines, is_definition, member_function}
-use Rattle.pdb_tpi.specs.Types.{modifier, pointer, pointer_mode, procedure, properties_place, type_data, type_kind}
-use Rattle.pdb_tpi.specs.Types.{types}
+use Rattle.pdb_tpi.specs.TypeLeaves.{argument_list, array, array_size, data_of, defines, dimensioned_array}
+use Rattle.pdb_tpi.specs.TypeLeaves.{is_definition, member_function}
+use Rattle.pdb_tpi.specs.TypeLeaves.{modifier, pointer, pointer_mode, procedure, properties_place, type_data, type_kind}
+use Rattle.pdb_tpi.specs.TypeLeaves.{types}
 use Rattle.pdb_session.specs.Definitions.{AreMarked, AreNamed, defines_one, goes_by, has_name, is_settled}
 use Rattle.pdb_session.specs.Definitions.{is_settled_at}
 
@@ -80,8 +82,8 @@ class_defines kind content = where_long (nat_lt (length content) 16) _ _ (λ lon
     has_properties content 2 16 (omega arith) long (same_reference _ a is defined)))
 
 -- a class in the newer layout that is no forward reference has properties at 0 that say so
-newer_class_defines : (kind : ClassKind) (content : List ℕ) → Defining (newer_class kind content) (defines content 0)
-unfolding newer_class
+newer_class_defines : (kind : ClassKind) (content : List ℕ) → Defining (class2 kind content) (defines content 0)
+unfolding class2
 newer_class_defines kind content = where_long (nat_lt (length content) 18) _ _ (λ long.
     after_first (sized_names (two_byte_number content) (drop 18 content)) _ _ (λ named a is defined.
     has_properties content 0 18 (omega arith) long (same_reference _ a is defined)))
@@ -130,6 +132,17 @@ enumeration_defines : (content : List ℕ) → Defining (enumeration content) fa
 unfolding enumeration
 enumeration_defines content = where_long (nat_lt (length content) 12) _ _ (λ long.
     after_first (name_in (drop 12 content)) _ _ (λ name a is defined. cc))
+
+-- an alias is neither a class nor a union
+alias_defines : (content : List ℕ) → Defining (alias content) false
+unfolding alias
+alias_defines content = where_long (nat_lt (length content) 4) _ _ (λ long.
+    after_first (name_in (drop 4 content)) _ _ (λ name a is defined. cc))
+
+-- an array with dimensions is neither a class nor a union
+dimensioned_array_defines : (content : List ℕ) → Defining (dimensioned_array content) false
+unfolding dimensioned_array
+dimensioned_array_defines content = where_long (nat_lt (length content) 8) _ _ (λ long a is defined. cc)
 
 -- a record that is read by its kind alone is neither a class nor a union
 other_defines : (text : List ℕ) → Defining (Ok (type.Other text)) false
@@ -194,8 +207,11 @@ kinds_define leaf content =
     next_kind (leaf == lf_fieldlist) _ (other_defines (codes "FieldList")) (
     next_kind (leaf == lf_bitfield) _ (other_defines (codes "Bitfield")) (
     next_kind (leaf == lf_methodlist) _ (other_defines (codes "MethodList")) (
-    next_kind (leaf == lf_vftable) _ (other_defines (codes "VirtualFunctionTable"))
-    (no_kind leaf content))))))))))))))))))))
+    next_kind (leaf == lf_vftable) _ (other_defines (codes "VirtualFunctionTable")) (
+    next_kind (leaf == lf_vtshape) _ (other_defines (codes "VirtualFunctionTableShape")) (
+    next_kind (leaf == lf_alias) _ (alias_defines content) (
+    next_kind (leaf == lf_dimarray) _ (dimensioned_array_defines content)
+    (no_kind leaf content)))))))))))))))))))))))
 
 -- a record whose item is a class or a union, and no forward reference, is a definition by its bytes
 record_defines : (first position : ℕ) (bytes : TypeBytes) (a : Aggregate)

@@ -13,22 +13,22 @@ use Rattle.pdb_records.specs.declared.types.TypeData.{TypeData}
 use Rattle.pdb_records.specs.declared.types.TypeIndex.{TypeIndex}
 use Rattle.pdb_msf.specs.Faults.{◌>>=◌}
 use Rattle.pdb_msf.specs.Msf.{Msf, container}
-use Rattle.pdb_msf.specs.declared.container_fault.ContainerFault.{ContainerFault}
-use Rattle.pdb_msf.specs.StreamMap.{MappedFile, with_bytes}
-use Rattle.pdb_tpi.specs.Ids.{ids}
-use Rattle.pdb_tpi.specs.Items.{ItemMeaning}
-use Rattle.pdb_tpi.specs.Types.{types}
+use Rattle.pdb_msf.specs.declared.container_error.ContainerError.{ContainerError}
+use Rattle.pdb_msf.specs.MsfLayout.{MappedFile, with_bytes}
+use Rattle.pdb_tpi.specs.IdLeaves.{ids}
+use Rattle.pdb_tpi.specs.ItemStreams.{ItemMeaning}
+use Rattle.pdb_tpi.specs.TypeLeaves.{types}
 use Rattle.pdb_tpi.specs.declared.type_places.TypePlaces.{TypePlaces}
 use Rattle.pdb_container.specs.DebugRecords.{global_symbols, module_infos, streams_of_modules, tabled}
 use Rattle.pdb_container.specs.Front.{HasFront}
 use Rattle.pdb_container.specs.ModulePlaces.{ModuleOrFault, PlaceOrFault, module_of, module_places, modules_read}
 use Rattle.pdb_container.specs.ModulePlaces.{places_within}
-use Rattle.pdb_container.specs.Records.{records, table_of}
+use Rattle.pdb_container.specs.PdbFile.{records, table_of}
 use Rattle.pdb_container.specs.TypeRecords.{id_information, type_information}
 use Rattle.pdb_container.specs.UnnamedCode.{named_modules}
 use Rattle.pdb_file_laws.proofs.SameFrontLemmas.{front_same, places_same, streams_same}
 use Rattle.pdb_file_laws.specs.SameFronts.{SameFronts}
-use Rattle.pdb_repairs.specs.Repaired.{repaired, repaired_read, repaired_symbols}
+use Rattle.pdb_repairs.specs.Repaired.{repaired, repaired_items, repaired_read, repaired_symbols}
 use Rattle.pdb_known.proofs.AllReadLemmas.{part_of_itself}
 use Rattle.pdb_known.specs.Known.{AreAlike, AreDefinedAlike, IsPartOf, Known, all_read}
 use Rattle.pdb_session.proofs.ReadLemmas.{modules_alone}
@@ -49,7 +49,7 @@ part_of_file (Some file) mapped places lists known reads = λ long whole is.
     let reader : IsReaderOf file mapped places lists known = reads long in
     let msf : Msf = with_bytes file mapped in
     let same : records msf ≡ whole = ap (λ read. result_unwrap_or read (records msf))
-    (sym (ap (λ (read : Result Msf ContainerFault). read >>= λ msf. Ok (records msf)) reader.container) ∙ is) in
+    (sym (ap (λ (read : Result Msf ContainerError). read >>= λ msf. Ok (records msf)) reader.container) ∙ is) in
     subst (λ r. IsPartOf known (repaired r)) same reader.part
 
 -- a list begins with the items that every list has
@@ -112,11 +112,12 @@ ids_left file (Some places) part new whole read are left = left
 -- what is known with types that were read is a part of the file
 pub part_with_types : (file : List ℕ) (mapped : MappedFile) (places : List PlaceOrFault) (lists : TypeLists)
     (known : Known) (read : Option TypesRead) → known.all ≡ false → IsReaderOf file mapped places lists known
-    → AreTypesOf lists.types.places (type_information (with_bytes file mapped)) read
+    → AreTypesOf lists.types.places (repaired_items (type_information (with_bytes file mapped))) read
     → IsReaderOf file mapped places lists (with_types known read)
 part_with_types file mapped places lists known None some reader are = reader
 part_with_types file mapped places lists known (Some read) some reader are =
-    let whole : ItemsOrFault TypeIndex TypeData = type_information (with_bytes file mapped) in
+    let whole : ItemsOrFault TypeIndex TypeData =
+    repaired_items (type_information (with_bytes file mapped)) in
     record {
       container = reader.container;
       places = reader.places;
@@ -140,11 +141,12 @@ part_with_types file mapped places lists known (Some read) some reader are =
 -- what is known with ids that were read is a part of the file
 pub part_with_ids : (file : List ℕ) (mapped : MappedFile) (places : List PlaceOrFault) (lists : TypeLists)
     (known : Known) (read : Option IdsRead) → known.all ≡ false → IsReaderOf file mapped places lists known
-    → AreIdsOf lists.ids.places (id_information (with_bytes file mapped)) read
+    → AreIdsOf lists.ids.places (repaired_items (id_information (with_bytes file mapped))) read
     → IsReaderOf file mapped places lists (with_ids known read)
 part_with_ids file mapped places lists known None some reader are = reader
 part_with_ids file mapped places lists known (Some read) some reader are =
-    let whole : ItemsOrFault IdIndex IdData = id_information (with_bytes file mapped) in
+    let whole : ItemsOrFault IdIndex IdData =
+    repaired_items (id_information (with_bytes file mapped)) in
     record {
       container = reader.container;
       places = reader.places;
@@ -231,8 +233,8 @@ same_records a b sections map_is symbols debug types ids strings modules =
 all_of_file : (file : List ℕ) (mapped : MappedFile) (places : List PlaceOrFault) (lists : TypeLists) (known : Known)
     (types_read : Option (ItemInformation TypeIndex TypeData)) (ids_read : Option (ItemInformation IdIndex IdData))
     (modules : List ModuleOrFault) → length file ≡ mapped.file_length → IsReaderOf file mapped places lists known
-    → AreAllOf lists.types.places (type_information (with_bytes file mapped)) types_read
-    → AreAllOf lists.ids.places (id_information (with_bytes file mapped)) ids_read
+    → AreAllOf lists.types.places (repaired_items (type_information (with_bytes file mapped))) types_read
+    → AreAllOf lists.ids.places (repaired_items (id_information (with_bytes file mapped))) ids_read
     → modules ≡ map repaired_read (named_modules mapped.file_length (tabled known.records.global_symbols)
     (map (module_of (with_bytes file mapped)) places))
     → with_all known.records types_read ids_read modules ≡ repaired (records (with_bytes file mapped))
@@ -241,9 +243,9 @@ all_of_file file mapped places lists known types_read ids_read modules long read
     let msf : Msf = with_bytes file mapped in
     same_records (with_all known.records types_read ids_read modules) (repaired (records msf))
     reader.part.sections reader.part.address_map reader.part.global_symbols reader.part.debug_information
-    (all_read_of types file lists.types.places known.records.type_information (type_information msf) types_read
+    (all_read_of types file lists.types.places known.records.type_information (repaired_items (type_information msf)) types_read
     reader.types all_types)
-    (all_read_of ids file lists.ids.places known.records.id_information (id_information msf) ids_read reader.ids
+    (all_read_of ids file lists.ids.places known.records.id_information (repaired_items (id_information msf)) ids_read reader.ids
     all_ids)
     reader.part.string_table
     (are
@@ -261,8 +263,8 @@ pub all_is_part : (file : List ℕ) (mapped : MappedFile) (places : List PlaceOr
     (known new : Known) (types_read : Option (ItemInformation TypeIndex TypeData))
     (ids_read : Option (ItemInformation IdIndex IdData)) (modules : List ModuleOrFault)
     → length file ≡ mapped.file_length → IsReaderOf file mapped places lists known
-    → AreAllOf lists.types.places (type_information (with_bytes file mapped)) types_read
-    → AreAllOf lists.ids.places (id_information (with_bytes file mapped)) ids_read
+    → AreAllOf lists.types.places (repaired_items (type_information (with_bytes file mapped))) types_read
+    → AreAllOf lists.ids.places (repaired_items (id_information (with_bytes file mapped))) ids_read
     → modules ≡ map repaired_read (named_modules mapped.file_length (tabled known.records.global_symbols)
     (map (module_of (with_bytes file mapped)) places))
     → emptied.types.places ≡ None → emptied.ids.places ≡ None
@@ -277,12 +279,12 @@ all_is_part file mapped places lists emptied known new types_read ids_read modul
       container = reader.container;
       places = reader.places;
       types = subst (λ places. IsLeft types file places (all_or types_read known.records.type_information)
-          (type_information msf)) (sym no_types)
-          (all_read_of types file lists.types.places known.records.type_information (type_information msf) types_read
+          (repaired_items (type_information msf))) (sym no_types)
+          (all_read_of types file lists.types.places known.records.type_information (repaired_items (type_information msf)) types_read
           reader.types all_types);
       ids = subst (λ places. IsLeft ids file places (all_or ids_read known.records.id_information)
-          (id_information msf)) (sym no_ids)
-          (all_read_of ids file lists.ids.places known.records.id_information (id_information msf) ids_read
+          (repaired_items (id_information msf))) (sym no_ids)
+          (all_read_of ids file lists.ids.places known.records.id_information (repaired_items (id_information msf)) ids_read
           reader.ids all_ids);
       part = subst (λ whole. IsPartOf (all_read (with_all known.records types_read ids_read modules)) whole) same
           (part_of_itself (with_all known.records types_read ids_read modules));
@@ -292,8 +294,8 @@ all_is_part file mapped places lists emptied known new types_read ids_read modul
 pub part_with_read : (file : List ℕ) (mapped : MappedFile) (places : List PlaceOrFault) (lists : TypeLists)
     (known new : Known) (types_read : Option TypesRead) (ids_read : Option IdsRead) (reads : List ModuleRead)
     → known.all ≡ false → IsReaderOf file mapped places lists known
-    → AreTypesOf lists.types.places (type_information (with_bytes file mapped)) types_read
-    → AreIdsOf lists.ids.places (id_information (with_bytes file mapped)) ids_read
+    → AreTypesOf lists.types.places (repaired_items (type_information (with_bytes file mapped))) types_read
+    → AreIdsOf lists.ids.places (repaired_items (id_information (with_bytes file mapped))) ids_read
     → All (IsReadFrom file mapped places) reads → All HasNames reads
     → new ≡ with_modules (with_ids (with_types known types_read) ids_read) new.modules new.records.module_infos
     → ((whole : List ModuleOrFault) → All (IsModuleOf whole) reads

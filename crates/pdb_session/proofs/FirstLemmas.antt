@@ -8,17 +8,18 @@ use Rattle.pdb_records.specs.Records.{Records}
 use Rattle.pdb_records.specs.declared.types.TypeData.{TypeData}
 use Rattle.pdb_records.specs.declared.types.TypeIndex.{TypeIndex}
 use Rattle.pdb_msf.specs.Msf.{Msf}
-use Rattle.pdb_msf.specs.StreamMap.{MappedFile, with_bytes}
-use Rattle.pdb_tpi.specs.Ids.{ids}
-use Rattle.pdb_tpi.specs.Items.{ItemMeaning, TypeList, item_of, list_items}
+use Rattle.pdb_msf.specs.MsfLayout.{MappedFile, with_bytes}
+use Rattle.pdb_tpi.specs.IdLeaves.{ids}
+use Rattle.pdb_tpi.specs.ItemStreams.{ItemMeaning, TypeList, item_of, list_items}
 use Rattle.pdb_tpi.specs.TypePlaces.{list_at}
 use Rattle.pdb_tpi.specs.TypeRecords.{TypeBytes}
-use Rattle.pdb_tpi.specs.Types.{types}
+use Rattle.pdb_tpi.specs.TypeLeaves.{types}
 use Rattle.pdb_tpi.specs.declared.type_places.TypePlaces.{TypePlaces}
 use Rattle.pdb_container.specs.DebugRecords.{module_infos, sections}
 use Rattle.pdb_container.specs.ModulePlaces.{PlaceOrFault}
 use Rattle.pdb_container.specs.TypeRecords.{id_information, type_information}
-use Rattle.pdb_repairs.specs.Repaired.{repaired, repaired_debug_information, repaired_read, repaired_symbols}
+use Rattle.pdb_repairs.specs.Repaired.{repaired, repaired_debug_information, repaired_items, repaired_read}
+use Rattle.pdb_repairs.specs.Repaired.{repaired_symbols}
 use Rattle.pdb_known.proofs.AllReadLemmas.{alike_itself, defined_itself}
 use Rattle.pdb_known.specs.Known.{AreAlike, AreDefinedAlike}
 use Rattle.pdb_session.proofs.MarkedLemmas.{alike_where_marked, defined_where_marked}
@@ -45,7 +46,7 @@ no_mark count position set = by_place (within_or_behind position count) where
       let no : None ≡ Some true = sym there ∙ set in
       cc
 
--- a mark that is set where none is lies behind them
+-- a mark that is set where none is lies after them
 set_behind : (count position : ℕ) → unwrap_or (slice_get (replicate count false) position) true ≡ true
     → count ≤ position
 set_behind count position set = by_place (within_or_behind position count) where
@@ -139,17 +140,41 @@ begins_left : {I D : Type 0} (meaning : ItemMeaning I D) (file : List ℕ) (plac
 begins_left meaning file None part whole begins = begins
 begins_left meaning file (Some places) part whole begins = begins.1
 
+-- places of a list stay those of the list that is repaired, since it can be read
+has_repaired : {I D : Type 0} (meaning : ItemMeaning I D) (file : List ℕ) (places : TypePlaces)
+    (whole : ItemsOrFault I D) → HasItemsAt meaning file places whole
+    → HasItemsAt meaning file places (repaired_items whole)
+has_repaired meaning file places whole has = record {
+  stream = has.stream;
+  said = has.said;
+  lies = has.lies;
+  items = ap repaired_items has.items;
+}
+
+-- a list that begins as every list begins so once it is repaired
+begins_repaired : {I D : Type 0} (meaning : ItemMeaning I D) (file : List ℕ) (places : Option TypePlaces)
+    (part whole : ItemsOrFault I D) → BeginsAs meaning file places part whole
+    → BeginsAs meaning file places (repaired_items part) (repaired_items whole)
+begins_repaired meaning file None part whole begins = ap repaired_items begins
+begins_repaired meaning file (Some places) part whole begins =
+    (ap repaired_items begins.0, has_repaired meaning file places whole begins.1)
+
 -- what is known of a file at first is a part of it, without what is broken in its front
 opened_is_part : (file : List ℕ) (mapped : MappedFile) (places : List PlaceOrFault) (lists : TypeLists)
     (read : Records) → IsOpened file mapped places lists read
     → IsReaderOf file mapped places lists (first_known (repaired read) places lists)
 opened_is_part file mapped places lists read opened =
     let msf : Msf = with_bytes file mapped in
+    let of_types = begins_repaired types file lists.types.places read.type_information (type_information msf)
+    opened.types in
+    let of_ids = begins_repaired ids file lists.ids.places read.id_information (id_information msf) opened.ids in
     record {
       container = opened.container;
       places = opened.places;
-      types = begins_left types file lists.types.places read.type_information (type_information msf) opened.types;
-      ids = begins_left ids file lists.ids.places read.id_information (id_information msf) opened.ids;
+      types = begins_left types file lists.types.places (repaired_items read.type_information)
+          (repaired_items (type_information msf)) of_types;
+      ids = begins_left ids file lists.ids.places (repaired_items read.id_information)
+          (repaired_items (id_information msf)) of_ids;
       part = record {
         all = λ all. absurd cc;
         sections = opened.front.0;
@@ -171,12 +196,12 @@ opened_is_part file mapped places lists read opened =
               count_of_modules msf,
               ap length opened.places,
             )));
-        types = begins_alike (λ i. i.0) types (λ n. refl) file lists.types.places read.type_information
-            (type_information msf) opened.types;
-        definitions = begins_defined file lists.types.places read.type_information (type_information msf)
-            opened.types;
-        ids = begins_alike (λ i. i.0) ids (λ n. refl) file lists.ids.places read.id_information (id_information msf)
-            opened.ids;
+        types = begins_alike (λ i. i.0) types (λ n. refl) file lists.types.places
+            (repaired_items read.type_information) (repaired_items (type_information msf)) of_types;
+        definitions = begins_defined file lists.types.places (repaired_items read.type_information)
+            (repaired_items (type_information msf)) of_types;
+        ids = begins_alike (λ i. i.0) ids (λ n. refl) file lists.ids.places (repaired_items read.id_information)
+            (repaired_items (id_information msf)) of_ids;
       };
     }
 

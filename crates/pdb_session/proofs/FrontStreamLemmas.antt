@@ -10,7 +10,7 @@ use Rattle.pdb_msf.specs.StreamBlocks.{BlockList}
 use Rattle.pdb_dbi.specs.OptionalStreams.{optional_stream, stream_number}
 use Rattle.pdb_container.specs.DebugRecords.{debug_header}
 use Rattle.pdb_container.specs.Info.{named_stream}
-use Rattle.pdb_container.specs.Strings.{names_name}
+use Rattle.pdb_container.specs.NameStream.{names_name}
 use Rattle.pdb_file_laws.proofs.SameFrontLemmas.{same_header}
 use Rattle.pdb_file_laws.specs.SameFronts.{SameFronts}
 use Rattle.pdb_session.specs.FrontStreams.{HasStreams, KeepsStreams, named_by_front, named_by_header}

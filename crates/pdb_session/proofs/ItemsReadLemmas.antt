@@ -13,12 +13,12 @@ use Rattle.pdb_records.specs.declared.types.TypeData.{TypeData}
 use Rattle.pdb_records.specs.declared.types.TypeIndex.{TypeIndex}
 use Rattle.pdb_msf.specs.StreamBlocks.{BlockList, said_in}
 use Rattle.pdb_tpi.proofs.SaidLemmas.{of_said}
-use Rattle.pdb_tpi.specs.Ids.{ids}
-use Rattle.pdb_tpi.specs.Items.{TypeList, list_items}
+use Rattle.pdb_tpi.specs.IdLeaves.{ids}
+use Rattle.pdb_tpi.specs.ItemStreams.{TypeList, list_items}
 use Rattle.pdb_tpi.specs.RecordWindows.{records_in}
 use Rattle.pdb_tpi.specs.TypePlaces.{list_at}
 use Rattle.pdb_tpi.specs.TypeRecords.{first_record}
-use Rattle.pdb_tpi.specs.Types.{types}
+use Rattle.pdb_tpi.specs.TypeLeaves.{types}
 use Rattle.pdb_tpi.specs.declared.type_places.TypePlaces.{TypePlaces}
 use Rattle.pdb_known.specs.Known.{AreAlike, AreDefinedAlike}
 use Rattle.pdb_session.proofs.MarkedLemmas.{alike_where_marked, defined_where_marked}

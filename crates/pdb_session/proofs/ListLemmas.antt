@@ -7,12 +7,12 @@ use Rattle.pdb_records.specs.declared.error.StreamError.{StreamError}
 use Rattle.pdb_msf.specs.Faults.{◌>>=◌}
 use Rattle.pdb_msf.specs.Msf.{Msf, stream_of}
 use Rattle.pdb_msf.specs.StreamBlocks.{BlockList, blocks_read, said_in, stream_in}
-use Rattle.pdb_msf.specs.declared.source_fault.SourceFault.{SourceFault}
+use Rattle.pdb_msf.specs.declared.source_error.SourceError.{SourceError}
 use Rattle.pdb_tpi.proofs.SaidLemmas.{of_said}
-use Rattle.pdb_tpi.specs.Ids.{ids, no_ids}
-use Rattle.pdb_tpi.specs.Items.{ItemMeaning, TypeList, list_items, stream_items, type_list}
+use Rattle.pdb_tpi.specs.IdLeaves.{ids, no_ids}
+use Rattle.pdb_tpi.specs.ItemStreams.{ItemMeaning, TypeList, list_items, stream_items, type_list}
 use Rattle.pdb_tpi.specs.TypePlaces.{IsListIn}
-use Rattle.pdb_tpi.specs.Types.{types}
+use Rattle.pdb_tpi.specs.TypeLeaves.{types}
 use Rattle.pdb_tpi.specs.declared.type_places.TypePlaces.{TypePlaces}
 use Rattle.pdb_container.specs.Info.{features}
 use Rattle.pdb_container.specs.TypeRecords.{id_information, ids_in, type_information}
@@ -126,7 +126,7 @@ same_length file file_length (Err fault) long same = tt
 
 -- the ids of a stream that has bytes, by its list
 pub ids_by_list : (known : Option (List ℕ)) (blocks : BlockList) (size : ℕ)
-    (result : Result (Result (Option TypePlaces) StreamError) SourceFault)
+    (result : Result (Result (Option TypePlaces) StreamError) SourceError)
     → ((known : Option (List ℕ)) → IfSome (said_in known blocks) (λ stream. length stream ≡ size)) → (size ≡ 0 → ⊥)
     → IfOk result (λ list. IfSome known (λ file. length file ≡ blocks.file_length
     → HasPlaces file list (listed_in file (Ok blocks))))

@@ -7,7 +7,7 @@ use Rattle.std.specs.Option.{option_map, option_to_list}
 use Rattle.pdb_records.specs.declared.error.StreamError.{StreamError}
 use Rattle.pdb_records.specs.declared.types.Item.{Item}
 use Rattle.pdb_records.specs.declared.types.ItemInformation.{ItemInformation}
-use Rattle.pdb_tpi.specs.Items.{ItemMeaning, TypeList, item_of}
+use Rattle.pdb_tpi.specs.ItemStreams.{ItemMeaning, TypeList, item_of}
 use Rattle.pdb_tpi.specs.TypeRecords.{TypeBytes}
 use Rattle.pdb_session.specs.MarkedItems.{marked_from, marked_items}
 

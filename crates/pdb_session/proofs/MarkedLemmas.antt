@@ -5,19 +5,22 @@ use Rattle.std.proofs.lemmas.Bool.{eqb-true, ltb-true}
 use Rattle.std.proofs.lemmas.Option.{slice_get_within, slice_get-get_or, unwrap_or-slice_get}
 use Rattle.std.specs.List.{flat_map, range_with_len}
 use Rattle.std.specs.Option.{option_map, option_or}
-use Rattle.std.specs.Prelude.{◌==◌, ◌&&◌, ◌||◌, ⊤, nat_lt, unwrap_or, find, map, option_and_then}
+use Rattle.std.specs.Prelude.{◌*◌, ◌==◌, ◌&&◌, ◌||◌, ⊤, nat_lt, unwrap_or, find, map, option_and_then}
 use Rattle.pdb_records.specs.declared.types.Item.{Item}
 use Rattle.pdb_records.specs.declared.types.PrimitiveKind.{PrimitiveKind}
+use Rattle.pdb_records.specs.declared.types.PrimitiveType.{PrimitiveType}
 use Rattle.pdb_records.specs.declared.types.TypeData.{TypeData}
+use Rattle.pdb_records.specs.declared.types.TypeData.TheVariants.{Primitive}
 use Rattle.pdb_records.specs.declared.types.TypeIndex.{TypeIndex}
 use Rattle.pdb_types.specs.ForwardReferences.{definition_size, entries_behind, entry_name, first_definition}
 use Rattle.pdb_types.specs.ForwardReferences.{forward_size}
-use Rattle.pdb_types.specs.Items.{first_item}
-use Rattle.pdb_types.specs.Reading.{said}
-use Rattle.pdb_tpi.specs.Items.{ItemMeaning, TypeList, index_at, item_of, items_from, list_items}
-use Rattle.pdb_tpi.specs.Primitives.{primitive, primitive_kinds, primitives, primitives_in}
+use Rattle.pdb_types.specs.ItemMap.{first_item}
+use Rattle.pdb_types.specs.ItemReading.{said}
+use Rattle.pdb_tpi.specs.ItemStreams.{ItemMeaning, TypeList, index_at, item_of, items_from, list_items}
+use Rattle.pdb_tpi.specs.Primitives.{null_pointer_type, primitive, primitive_kinds, primitives, primitives_in}
+use Rattle.pdb_tpi.specs.Primitives.{t_pvoid}
 use Rattle.pdb_tpi.specs.TypeRecords.{TypeBytes}
-use Rattle.pdb_tpi.specs.Types.{types}
+use Rattle.pdb_tpi.specs.TypeLeaves.{types}
 use Rattle.pdb_known.specs.Known.{AreAlike, AreDefinedAlike, is_covered}
 use Rattle.pdb_session.specs.MarkedItems.{AreSettled, marked_from, marked_items}
 
@@ -162,10 +165,20 @@ forward_behind number (item ∷ front) part whole none same =
     by_index others true (Some name) is = cc
     by_index others false name is = others
 
+-- neither type that an index of a primitive can have is a forward reference
+none_either : (index : TypeIndex) (is_null : Bool) (p : PrimitiveType)
+    → entry_name (record { index = index; content = Ok (cond is_null null_pointer_type (Primitive p)) }) ≡ None
+none_either index true p = refl
+none_either index false p = refl
+
 -- no primitive of one mode is a forward reference
 none_mapped : (mode : ℕ) (kinds : List (ℕ × PrimitiveKind)) → NoneRefers (map (primitive mode) kinds)
 none_mapped mode [] = tt
-none_mapped mode (kind ∷ kinds) = (refl, none_mapped mode kinds)
+none_mapped mode (listed ∷ kinds) =
+    let index : ℕ = mode * 256 + listed.0 in (
+      none_either (record { 0 = index }) (index == t_pvoid) (record { kind = listed.1; indirection = nat_lt 0 mode }),
+      none_mapped mode kinds,
+    )
 
 -- two lists without forward references have none together
 none_behind : (front items : List (Item TypeIndex TypeData)) → NoneRefers front → NoneRefers items

@@ -11,7 +11,7 @@ use Rattle.pdb_records.specs.declared.error.StreamError.{StreamError}
 use Rattle.pdb_errors.specs.Outcomes.{and_then, streamed}
 use Rattle.pdb_errors.specs.declared.error.Error.{Error}
 use Rattle.pdb_types.specs.declared.flags.TypeFormatterFlags.{TypeFormatterFlags}
-use Rattle.pdb_functions.specs.Contributions.{merged_contributions}
+use Rattle.pdb_functions.specs.MergedContributions.{merged_contributions}
 use Rattle.pdb_functions.specs.Spans.{contribution_covers}
 use Rattle.pdb_addr2line.specs.ContextData.{context_of}
 use Rattle.pdb_addr2line.specs.ContextInputs.{ContextInputs}

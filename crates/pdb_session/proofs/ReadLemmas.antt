@@ -8,20 +8,20 @@ use Rattle.std.proofs.lemmas.List.Elements.{All-cons, All-head, All-nil, All-tai
 use Rattle.std.proofs.lemmas.Option.{slice_get-get_or, slice_get-map, slice_get_past}
 use Rattle.std.specs.Prelude.{fold, option_map, slice_get, slice_set, unwrap_or}
 use Rattle.pdb_msf.specs.Msf.{Msf}
-use Rattle.pdb_dbi.specs.declared.module_list.ModuleStream.{ModuleStream}
+use Rattle.pdb_dbi.specs.declared.module_substream.ModuleStream.{ModuleStream}
 use Rattle.pdb_container.proofs.ModuleLemmas.{count_of_places}
 use Rattle.pdb_container.specs.DebugRecords.{global_symbols, module_infos, streams_of_modules}
-use Rattle.pdb_container.specs.Functions.{any_function, symbols_of}
+use Rattle.pdb_container.specs.FunctionsByStart.{any_function, symbols_of}
 use Rattle.pdb_container.specs.ModulePlaces.{ModuleOrFault, PlaceOrFault, module_at, module_of, module_places}
 use Rattle.pdb_container.specs.ModulePlaces.{modules_read, place_at}
-use Rattle.pdb_container.specs.UnnamedCode.{apart_from, code_from, code_in_module, named}
-use Rattle.pdb_container.specs.UnnamedCode.{named_module, named_modules, namings}
+use Rattle.pdb_container.specs.UnnamedCode.{separated_from, code_from, code_in_module, named}
+use Rattle.pdb_container.specs.UnnamedCode.{named_module, named_modules, renamed_symbols}
 use Rattle.pdb_file_laws.proofs.ModuleLemmas.{said_alone}
 use Rattle.pdb_repairs.specs.Repaired.{repaired_read}
 use Rattle.pdb_session.specs.FileParts.{AreModulesOf, HasNames, IsModuleOf, module_in}
 use Rattle.pdb_session.specs.declared.module_reads.ModuleRead.{ModuleRead}
 
--- a position lies within a list or behind it
+-- a position lies within a list or after it
 pub within_or_behind : (position count : ℕ) → (position < count) ⊎ (count ≤ position)
 within_or_behind position count = by_order (cases_order position count) where
   by_order : (position ≡ count) ⊎ ((position < count) ⊎ (count < position))
@@ -59,10 +59,10 @@ pub count_of_modules : (msf : Msf) → length (module_infos msf) ≡ length (mod
 unfolding module_infos named_modules modules_read
 count_of_modules msf =
     let places : List PlaceOrFault = module_places msf (streams_of_modules msf) in
-    length_folded named (λ modules naming.
-    length_changed modules naming.module_index (named_module naming.position naming.procedure)
-    (slice_get modules naming.module_index))
-    (namings (any_function (map (module_of msf) places) (global_symbols msf)) (length msf.file)
+    length_folded named (λ modules renamed_symbol.
+    length_changed modules renamed_symbol.module_index (named_module renamed_symbol.position renamed_symbol.procedure)
+    (slice_get modules renamed_symbol.module_index))
+    (renamed_symbols (any_function (map (module_of msf) places) (global_symbols msf)) (length msf.file)
     (code_from 0 (map (module_of msf) places))) (map (module_of msf) places)
     ∙ length-map places (module_of msf)
 
@@ -72,7 +72,7 @@ same_symbols (Ok (Some info)) = refl
 same_symbols (Ok None) = refl
 same_symbols (Err fault) = refl
 
--- behind the last module nothing is known
+-- after the last module nothing is known
 pub nothing_behind : (modules : List ModuleOrFault) (position : ℕ) → length modules ≤ position
     → module_in modules position ≡ Ok None
 nothing_behind modules position past =
@@ -95,8 +95,8 @@ module_alone msf read is named_code =
     alone : ModuleOrFault
     alone = module_of msf (place_at places read.position)
 
-    none_apart : apart_from 0 None (symbols_of alone) ≡ []
-    none_apart = ap (λ symbols. apart_from 0 None symbols) (sym (ap symbols_of is ∙ same_symbols alone)) ∙ named_code
+    none_apart : separated_from 0 None (symbols_of alone) ≡ []
+    none_apart = ap (λ symbols. separated_from 0 None symbols) (sym (ap symbols_of is ∙ same_symbols alone)) ∙ named_code
 
     by_place : (read.position < length streams) ⊎ (length streams ≤ read.position)
         → module_in (map repaired_read (module_infos msf)) read.position ≡ read.info

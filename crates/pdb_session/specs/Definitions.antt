@@ -9,9 +9,9 @@ use Rattle.pdb_records.specs.declared.types.Item.{Item}
 use Rattle.pdb_records.specs.declared.types.TypeData.{TypeData}
 use Rattle.pdb_records.specs.declared.types.TypeIndex.{TypeIndex}
 use Rattle.pdb_types.specs.ForwardReferences.{definition_size, entry_name, item_aggregate}
-use Rattle.pdb_tpi.specs.Items.{TypeList, item_at}
+use Rattle.pdb_tpi.specs.ItemStreams.{TypeList, item_at}
 use Rattle.pdb_tpi.specs.TypePlaces.{defines_at}
-use Rattle.pdb_tpi.specs.Types.{types}
+use Rattle.pdb_tpi.specs.TypeLeaves.{types}
 
 -- whether a set of names has one of these bytes
 abbrev pub has_name : BTreeSet (Vec ℕ) → List ℕ → Bool

@@ -11,24 +11,27 @@ use Rattle.pdb_records.specs.declared.types.TypeIndex.{TypeIndex}
 use Rattle.pdb_msf.specs.Msf.{container}
 use Rattle.pdb_msf.specs.Faults.{◌>>=◌}
 use Rattle.pdb_msf.specs.StreamBlocks.{BlockList, blocks_read, said_in}
-use Rattle.pdb_msf.specs.StreamMap.{IfFile, MappedFile, with_bytes}
-use Rattle.pdb_tpi.specs.Ids.{ids}
-use Rattle.pdb_tpi.specs.Items.{ItemMeaning, TypeList, list_items, type_list}
+use Rattle.pdb_msf.specs.MsfLayout.{IfFile, MappedFile, with_bytes}
+use Rattle.pdb_tpi.specs.IdLeaves.{ids}
+use Rattle.pdb_tpi.specs.ItemStreams.{ItemMeaning, TypeList, list_items, type_list}
 use Rattle.pdb_tpi.specs.TypePlaces.{LieIn, list_at}
-use Rattle.pdb_tpi.specs.Types.{types}
+use Rattle.pdb_tpi.specs.TypeLeaves.{types}
 use Rattle.pdb_tpi.specs.declared.type_places.TypePlaces.{TypePlaces}
 use Rattle.pdb_container.specs.DebugRecords.{streams_of_modules}
 use Rattle.pdb_container.specs.ModulePlaces.{ModuleOrFault, PlaceOrFault, module_of, module_places, place_at}
 use Rattle.pdb_container.specs.Front.{HasFront}
-use Rattle.pdb_container.specs.Functions.{symbols_of}
-use Rattle.pdb_container.specs.Records.{records, records_of}
+use Rattle.pdb_container.specs.FunctionsByStart.{symbols_of}
+use Rattle.pdb_container.specs.PdbFile.{records, records_of}
+use Rattle.pdb_container.specs.PdbFileError.{code_refusal, reason_of}
 use Rattle.pdb_container.specs.TypeRecords.{id_information, type_information}
-use Rattle.pdb_container.specs.UnnamedCode.{apart_from}
-use Rattle.pdb_repairs.specs.Repaired.{repaired, repaired_read}
+use Rattle.pdb_container.specs.UnnamedCode.{separated_from}
+use Rattle.pdb_repairs.specs.Repaired.{repaired, repaired_items, repaired_read}
 use Rattle.pdb_known.specs.Known.{AreAlike, AreDefinedAlike, IsPartOf, Known, Span, all_read}
 use Rattle.pdb_session.specs.declared.items_read.IdsRead.{IdsRead}
 use Rattle.pdb_session.specs.declared.items_read.TypesRead.{TypesRead}
 use Rattle.pdb_session.specs.declared.module_reads.ModuleRead.{ModuleRead}
+use Rattle.pdb_session.specs.declared.session_error.SessionError.{SessionError}
+use Rattle.pdb_session.specs.declared.session_error.SessionError.TheVariants as session
 use Rattle.pdb_session.specs.declared.type_lists.TypeLists.{TypeLists}
 
 -- types or ids, or why they can't be read
@@ -172,9 +175,9 @@ IsReadFrom file mapped places read =
 
 -- all code of a module that was read has a name
 abbrev pub HasNames : ModuleRead → Type 0
-HasNames read = apart_from 0 None (symbols_of read.info) ≡ []
+HasNames read = separated_from 0 None (symbols_of read.info) ≡ []
 
--- what is known of the module at a position: nothing behind the last one
+-- what is known of the module at a position: nothing after the last one
 abbrev pub module_in : List ModuleOrFault → ℕ → ModuleOrFault
 module_in modules position = unwrap_or (slice_get modules position) (Ok None)
 
@@ -206,8 +209,9 @@ pub record IsReaderOf (file : List ℕ) (mapped : MappedFile) (at : List PlaceOr
   pub container : container file ≡ Ok (with_bytes file mapped)
   pub places : at ≡ module_places (with_bytes file mapped) (streams_of_modules (with_bytes file mapped))
   pub types : IsLeft types file lists.types.places known.records.type_information
-      (type_information (with_bytes file mapped))
-  pub ids : IsLeft ids file lists.ids.places known.records.id_information (id_information (with_bytes file mapped))
+      (repaired_items (type_information (with_bytes file mapped)))
+  pub ids : IsLeft ids file lists.ids.places known.records.id_information
+      (repaired_items (id_information (with_bytes file mapped)))
   pub part : IsPartOf known (repaired (records (with_bytes file mapped)))
 
 -- the same of the file that a source says, where it has this length
@@ -234,6 +238,15 @@ first_known read places lists = record {
 -- what counts as all is marked as all
 abbrev pub IsWhole : Known → Type 0
 IsWhole known = known.all ≡ true → known ≡ all_read known.records
+
+-- a session that was refused for the file's records was refused for what these are refused for, whatever of public
+-- symbols, types and ids can be read, where the source says the file's bytes and it has this length
+abbrev pub RefusesFile : {T : Type 0} → Result T SessionError → Option (List ℕ) → ℕ → Type 0
+RefusesFile (Err (session.Refused refusal)) bytes file_length = IfFile bytes file_length (λ file. (whole : Records)
+    → records_of file ≡ Ok whole → code_refusal whole ≡ Some (reason_of refusal))
+RefusesFile (Err (session.File error)) bytes file_length = Unit {0}
+RefusesFile (Err (session.Records error)) bytes file_length = Unit {0}
+RefusesFile (Ok opened) bytes file_length = Unit {0}
 
 -- what was read of a file is a part of its records without what is broken in them, where the source says the file's
 -- bytes and it has this length

@@ -4,10 +4,10 @@ use Rattle.std.specs.Result.{result_ok}
 use Rattle.pdb_records.specs.declared.error.StreamError.{StreamError}
 use Rattle.pdb_msf.specs.Msf.{Msf, stream_of}
 use Rattle.pdb_dbi.specs.OptionalStreams.{optional_stream, stream_number}
-use Rattle.pdb_dbi.specs.declared.header.DebugHeader.{DebugHeader}
+use Rattle.pdb_dbi.specs.declared.debug_header.DebugHeader.{DebugHeader}
 use Rattle.pdb_container.specs.DebugRecords.{debug_header}
 use Rattle.pdb_container.specs.Info.{named_stream}
-use Rattle.pdb_container.specs.Strings.{names_name}
+use Rattle.pdb_container.specs.NameStream.{names_name}
 
 -- the streams that a header of debug information names for symbols and for section headers
 abbrev pub named_by_header : Result DebugHeader StreamError → List ℕ

@@ -5,9 +5,9 @@ use Rattle.pdb_records.specs.declared.types.ItemInformation.{ItemInformation}
 use Rattle.pdb_records.specs.declared.types.TypeData.{TypeData}
 use Rattle.pdb_records.specs.declared.types.TypeIndex.{TypeIndex}
 use Rattle.pdb_types.specs.ForwardReferences.{definition_size, entry_name}
-use Rattle.pdb_tpi.specs.Items.{ItemMeaning, TypeList, item_at, item_of}
+use Rattle.pdb_tpi.specs.ItemStreams.{ItemMeaning, TypeList, item_at, item_of}
 use Rattle.pdb_tpi.specs.TypeRecords.{TypeBytes}
-use Rattle.pdb_tpi.specs.Types.{types}
+use Rattle.pdb_tpi.specs.TypeLeaves.{types}
 
 -- the items of the records that are marked, each by its position, of which the first one is given; a record without a
 -- mark is none of them
@@ -18,7 +18,7 @@ marked_from item position (true ∷ marks) (bytes ∷ rest) =
     item position bytes ∷ marked_from item (position + 1) marks rest
 marked_from item position (false ∷ marks) (bytes ∷ rest) = marked_from item (position + 1) marks rest
 
--- the marked items of a list, behind those that every list has
+-- the marked items of a list, after those that every list has
 abbrev pub marked_items : {I D : Type 0} → ItemMeaning I D → TypeList → List Bool → ItemInformation I D
 marked_items meaning list marks = record {
   items = record {

@@ -13,13 +13,13 @@ use Rattle.pdb_addr2line.specs.declared.calls.Answer.{Answer}
 use Rattle.pdb_addr2line.specs.declared.calls.Call.{Call}
 use Rattle.pdb_addr2line.specs.Calls.{Appends, StopsEarly, after_calls, answers_to}
 use Rattle.pdb_addr2line.specs.ContextInputs.{ContextInputs, ContextState}
-use Rattle.pdb_addr2line.specs.Functions.{start_addresses}
+use Rattle.pdb_addr2line.specs.FunctionIter.{start_addresses}
 use Rattle.pdb_addr2line.specs.Lookups.{code_failed_after, failed_after, failed_after_frames}
 use Rattle.pdb_addr2line.specs.NamedFunctions.{named_frames_answered, named_function_at}
 use Rattle.pdb_known.specs.Known.{Known, Span, infos_of}
 use Rattle.pdb_known.specs.StrictlyClosed.{is_strictly_closed}
-use Rattle.pdb_session.specs.declared.session_context.QuestionFault.{QuestionFault}
-use Rattle.pdb_session.specs.declared.session_context.QuestionFault.TheVariants as fault
+use Rattle.pdb_session.specs.declared.session_context.QuestionError.{QuestionError}
+use Rattle.pdb_session.specs.declared.session_context.QuestionError.TheVariants as fault
 use Rattle.pdb_session.specs.CodeOwners.{lacks_owner, owners_of}
 
 -- what a session has read, the bytes of its file, where its source says them, and how long that is
@@ -57,7 +57,7 @@ over state inputs = record state { inputs = inputs }
 
 -- frames at an address are those of a context over these records, in which the same parts failed before, and whose
 -- function goes by its symbol's name where it has no other, unless there was no memory
-abbrev pub GivesFrames : Result (Option FramesInfo) QuestionFault → ContextState Records → ContextInputs Records → ℕ
+abbrev pub GivesFrames : Result (Option FramesInfo) QuestionError → ContextState Records → ContextInputs Records → ℕ
     → Type 0
 GivesFrames (Ok found) state inputs address = named_frames_answered infos_of (over state inputs) address ≡ Ok found
 GivesFrames (Err (fault.Records error)) state inputs address =
@@ -71,7 +71,7 @@ HasFailed before after inputs address =
     × (after.code_failed ≡ code_failed_after infos_of (over before inputs) address)
 
 -- frames leave the same parts failed as those of a context over these records, unless there was no memory
-abbrev pub LeavesFailed : Result (Option FramesInfo) QuestionFault → ContextState Records → ContextState Records
+abbrev pub LeavesFailed : Result (Option FramesInfo) QuestionError → ContextState Records → ContextState Records
     → ContextInputs Records → ℕ → Type 0
 LeavesFailed (Ok found) before after inputs address = HasFailed before after inputs address
 LeavesFailed (Err (fault.Records error)) before after inputs address =
@@ -80,7 +80,7 @@ LeavesFailed (Err fault.NotRead) before after inputs address = ⊥
 
 -- the function at an address is that of a context over these records, by its symbol's name where it has no other, unless
 -- there was no memory
-abbrev pub GivesFunction : Result (Option Function) QuestionFault → ContextInputs Records → ℕ → Type 0
+abbrev pub GivesFunction : Result (Option Function) QuestionError → ContextInputs Records → ℕ → Type 0
 GivesFunction (Ok found) inputs address = option_map function_view found ≡ named_function_at infos_of inputs address
 GivesFunction (Err (fault.Records error)) inputs address = error ≡ OutOfMemory
 GivesFunction (Err fault.NotRead) inputs address = ⊥
@@ -91,20 +91,20 @@ HasFailedByFunction before after inputs address =
     (after.failed ≡ failed_after infos_of inputs address before.failed) × (after.code_failed ≡ before.code_failed)
 
 -- where functions start is what records list that are all there, unless there was no memory
-abbrev pub GivesStarts : Result (Vec ℕ) QuestionFault → ContextInputs Records → Type 0
+abbrev pub GivesStarts : Result (Vec ℕ) QuestionError → ContextInputs Records → Type 0
 GivesStarts (Ok starts) inputs = starts.items ≡ start_addresses infos_of inputs
 GivesStarts (Err (fault.Records error)) inputs = error ≡ OutOfMemory
 GivesStarts (Err fault.NotRead) inputs = ⊥
 
 -- where the next function starts is what records list that are all there, unless there was no memory
-abbrev pub GivesNextStart : Result (Option ℕ) QuestionFault → ContextInputs Records → ℕ → Type 0
+abbrev pub GivesNextStart : Result (Option ℕ) QuestionError → ContextInputs Records → ℕ → Type 0
 GivesNextStart (Ok start) inputs address = start ≡ find (λ from. nat_le address from) (start_addresses infos_of inputs)
 GivesNextStart (Err (fault.Records error)) inputs address = error ≡ OutOfMemory
 GivesNextStart (Err fault.NotRead) inputs address = ⊥
 
 -- calls are answered by records that are all there, and leave the context that they define; or some first ones are, and
 -- there was no memory for the next one
-abbrev pub EndsCalls : Result (Unit {0}) QuestionFault → ContextState Records → ContextState Records → List Call
+abbrev pub EndsCalls : Result (Unit {0}) QuestionError → ContextState Records → ContextState Records → List Call
     → List Answer → List Answer → Type 0
 EndsCalls (Ok _) before after calls answers answers' =
     Appends answers answers' (answers_to infos_of before calls) × (after ≡ after_calls infos_of before calls)

@@ -8,7 +8,7 @@ ghost use Rattle.pdb_tpi.specs.TypePlaces.{LieIn, list_at};
 ghost use Rattle.pdb_session.specs.Definitions.{AreMarked, AreNamed, defines_one, goes_by, has_name, is_settled};
 ghost use Rattle.pdb_session.specs.Definitions.{is_settled_at};
 
-use pdb_msf::{Source, SourceFault};
+use pdb_msf::{Source, SourceError};
 use pdb_records::{Item, RawString, TypeData, TypeIndex};
 use pdb_tpi::{RecordWindow, TypePlaces};
 use std::alloc::Global;
@@ -22,12 +22,12 @@ pub fn mark_definitions<S: Source>(
     places: &TypePlaces,
     names: &BTreeSet<Vec<u8>>,
     marks: &mut [bool],
-) -> Result<(), SourceFault>
+) -> Result<(), SourceError>
     requires length { length marks.old ≡ length places.now.starts.items }
     ensures marked { OnOk result (IfSome (said_in (S.bytes source.old) places.now.records.blocks) (λ stream.
         LieIn places.now stream → AreMarked names.now (list_at places.now stream) marks.new)) }
     ensures length { length marks.new ≡ length marks.old }
-    ensures refused { IfErr result (λ fault. fault ≡ SourceFault.Unreadable
+    ensures refused { IfErr result (λ fault. fault ≡ SourceError.Unreadable
         → S.refuses_from source.old ≤ places.now.records.blocks.file_length) }
     ensures inputs { S.bytes source.new ≡ S.bytes source.old }
     ensures refusals { S.refuses_from source.new ≡ S.refuses_from source.old }
@@ -45,12 +45,12 @@ fn mark_each<S: Source>(
     places: &TypePlaces,
     names: &BTreeSet<Vec<u8>>,
     marks: &mut [bool],
-) -> Result<(), SourceFault>
+) -> Result<(), SourceError>
     requires length { length marks.old ≡ length places.now.starts.items }
     ensures marked { OnOk result (IfSome (said_in (S.bytes source.old) places.now.records.blocks) (λ stream.
         LieIn places.now stream → AreMarked names.now (list_at places.now stream) marks.new)) }
     ensures length { length marks.new ≡ length marks.old }
-    ensures refused { IfErr result (λ fault. fault ≡ SourceFault.Unreadable
+    ensures refused { IfErr result (λ fault. fault ≡ SourceError.Unreadable
         → S.refuses_from source.old ≤ places.now.records.blocks.file_length) }
     ensures inputs { S.bytes source.new ≡ S.bytes source.old }
     ensures refusals { S.refuses_from source.new ≡ S.refuses_from source.old }
@@ -71,13 +71,13 @@ pub fn settled_sizes<S: Source>(
     names: &BTreeSet<Vec<u8>>,
     marks: &[bool],
     sizes: &[bool],
-) -> Result<Vec<bool>, SourceFault>
+) -> Result<Vec<bool>, SourceError>
     ensures length { IfOk result (λ kept. length kept.items ≡ length marks.now) }
     ensures marked { IfOk result (λ kept. (position : ℕ) → slice_get kept.items position ≡ Some true
         → slice_get marks.now position ≡ Some true) }
     ensures named { IfOk result (λ kept. IfSome (said_in (S.bytes source.old) places.now.records.blocks) (λ stream.
         LieIn places.now stream → AreNamed names.now (list_at places.now stream) kept.items)) }
-    ensures refused { IfErr result (λ fault. fault ≡ SourceFault.Unreadable
+    ensures refused { IfErr result (λ fault. fault ≡ SourceError.Unreadable
         → S.refuses_from source.old ≤ places.now.records.blocks.file_length) }
     ensures inputs { S.bytes source.new ≡ S.bytes source.old }
     ensures refusals { S.refuses_from source.new ≡ S.refuses_from source.old }
@@ -101,14 +101,14 @@ fn is_marked<S: Source>(
     window: &mut RecordWindow,
     position: usize,
     marked: bool,
-) -> Result<bool, SourceFault>
+) -> Result<bool, SourceError>
     ensures answer { IfOk result (λ answer. IfSome (said_in (S.bytes source.old) places.now.records.blocks) (λ stream.
         LieIn places.now stream → Shows (records_in places.now.records stream) window.old
         → answer ≡ (marked || defines_one names.now (list_at places.now stream) position))) }
     ensures shows { IfSome (said_in (S.bytes source.old) places.now.records.blocks) (λ stream.
         Shows (records_in places.now.records stream) window.old
         → Shows (records_in places.now.records stream) window.new) }
-    ensures refused { IfErr result (λ fault. fault ≡ SourceFault.Unreadable
+    ensures refused { IfErr result (λ fault. fault ≡ SourceError.Unreadable
         → S.refuses_from source.old ≤ places.now.records.blocks.file_length) }
     ensures inputs { S.bytes source.new ≡ S.bytes source.old }
     ensures refusals { S.refuses_from source.new ≡ S.refuses_from source.old }
@@ -135,7 +135,7 @@ fn keeps_size<S: Source>(
     window: &mut RecordWindow,
     position: usize,
     wanted: bool,
-) -> Result<bool, SourceFault>
+) -> Result<bool, SourceError>
     ensures answer { IfOk result (λ answer. IfSome (said_in (S.bytes source.old) places.now.records.blocks) (λ stream.
         LieIn places.now stream → Shows (records_in places.now.records stream) window.old
         → answer ≡ (wanted && is_settled_at names.now (list_at places.now stream) position))) }
@@ -143,7 +143,7 @@ fn keeps_size<S: Source>(
     ensures shows { IfSome (said_in (S.bytes source.old) places.now.records.blocks) (λ stream.
         Shows (records_in places.now.records stream) window.old
         → Shows (records_in places.now.records stream) window.new) }
-    ensures refused { IfErr result (λ fault. fault ≡ SourceFault.Unreadable
+    ensures refused { IfErr result (λ fault. fault ≡ SourceError.Unreadable
         → S.refuses_from source.old ≤ places.now.records.blocks.file_length) }
     ensures inputs { S.bytes source.new ≡ S.bytes source.old }
     ensures refusals { S.refuses_from source.new ≡ S.refuses_from source.old }

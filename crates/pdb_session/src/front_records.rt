@@ -1,24 +1,21 @@
 //! The records of a file that are read before any of its modules.
 
-ghost use Rattle.std.specs.Prelude.{◌≡◌, length, replicate, None, Ok, IfErr, IfOk, option_map};
+ghost use Rattle.std.specs.Prelude.{◌≡◌, length, replicate, None, Ok, IfErr, IfOk};
 ghost use Rattle.pdb_container.specs.DebugRecords.{streams_of_modules};
 ghost use Rattle.pdb_container.specs.ModulePlaces.{places_within};
 ghost use Rattle.pdb_container.specs.Front.{HasFront};
-ghost use Rattle.pdb_container.specs.Records.{has_names_only};
-ghost use Rattle.pdb_container.specs.Refusals.{reason_of, refusal_of};
-ghost use Rattle.pdb_container.specs.Info.{version};
+ghost use Rattle.pdb_container.specs.PdbFile.{has_names_only};
 ghost use Rattle.std.specs.Result.{result_unwrap_or};
-ghost use Rattle.pdb_msf.specs.Msf.{stream_of};
-ghost use Rattle.pdb_tpi.specs.Ids.{ids};
-ghost use Rattle.pdb_tpi.specs.Types.{types};
+ghost use Rattle.pdb_tpi.specs.IdLeaves.{ids};
+ghost use Rattle.pdb_tpi.specs.TypeLeaves.{types};
 ghost use Rattle.pdb_session.specs.FileParts.{first_information};
 
 use crate::front_streams::FrontStreams;
-use crate::reach::Reach;
+use crate::reachable_types::ReachableTypes;
 use crate::type_lists::{ItemList, TypeLists, first_items};
-use pdb_container::PdbFile;
-use pdb_container::parts::{Front, InfoStream, ModulePlace, read_front, refusal_of};
+use pdb_container::parts::{Front, InfoStream, ModulePlace, read_front};
 use pdb_msf::faults::Fault;
+use pdb_records::PDB;
 use std::alloc::Global;
 
 /// The records of a file without its types, ids and modules, and where these are.
@@ -27,8 +24,16 @@ pub struct FrontRecords {
     /// Where the records of each module are.
     pub places: Vec<ModulePlace>,
     pub lists: TypeLists,
-    pub reach: Reach,
-    pub file: PdbFile,
+    pub reach: ReachableTypes,
+    pub front: FileFront,
+}
+
+/// What a file says before any of its types, ids and modules is read.
+#[derive(Drop)]
+pub struct FileFront {
+    pub records: PDB,
+    /// Whether the file has names alone, since it was made with `/DEBUG:FASTLINK`: lines and types are in objects.
+    pub names_only: bool,
 }
 
 /// The records of a file of this length, of which these streams were read.
@@ -39,17 +44,15 @@ pub fn read_front_records(
 ) -> Result<FrontRecords, Fault>
     ensures places { IfOk result (λ read. read.places.items
         ≡ places_within streams.excerpt file_length (streams_of_modules streams.excerpt)) }
-    ensures front { IfOk result (λ read. HasFront streams.excerpt read.file.records) }
-    ensures modules { IfOk result (λ read. length read.file.records.module_infos ≡ length read.places.items) }
+    ensures front { IfOk result (λ read. HasFront streams.excerpt read.front.records) }
+    ensures modules { IfOk result (λ read. length read.front.records.module_infos ≡ length read.places.items) }
     ensures unread { IfOk result (λ read.
-        read.file.records.module_infos ≡ replicate (length read.places.items) (Ok None)) }
-    ensures types { IfOk result (λ read. read.file.records.type_information ≡ first_information types streams.types) }
-    ensures ids { IfOk result (λ read. read.file.records.id_information ≡ first_information ids streams.ids) }
+        read.front.records.module_infos ≡ replicate (length read.places.items) (Ok None)) }
+    ensures types { IfOk result (λ read. read.front.records.type_information ≡ first_information types streams.types) }
+    ensures ids { IfOk result (λ read. read.front.records.id_information ≡ first_information ids streams.ids) }
     ensures type_places { IfOk result (λ read. read.lists.types.places ≡ result_unwrap_or streams.types None) }
     ensures id_places { IfOk result (λ read. read.lists.ids.places ≡ result_unwrap_or streams.ids None) }
-    ensures refusal { IfOk result (λ read. option_map reason_of read.file.refusal
-        ≡ refusal_of (version (stream_of streams.excerpt 1)) read.file.records) }
-    ensures names_only { IfOk result (λ read. read.file.names_only ≡ has_names_only streams.excerpt) }
+    ensures names_only { IfOk result (λ read. read.front.names_only ≡ has_names_only streams.excerpt) }
     ensures memory { IfErr result (λ fault. fault ≡ Fault.OutOfMemory) }
 {
     let FrontStreams {
@@ -69,9 +72,8 @@ pub fn read_front_records(
         types: ItemList::new(types),
         ids: ItemList::new(ids),
     };
-    let reach = Reach::new(alloc, &lists)?;
-    let file = PdbFile {
-        refusal: refusal_of(info.version(), &records),
+    let reach = ReachableTypes::new(alloc, &lists)?;
+    let front = FileFront {
         names_only: info.features().names_only,
         records,
     };
@@ -79,6 +81,6 @@ pub fn read_front_records(
         places,
         lists,
         reach,
-        file,
+        front,
     })
 }

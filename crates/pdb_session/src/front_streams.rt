@@ -5,10 +5,10 @@ ghost use Rattle.pdb_container.specs.DebugRecords.{debug_header};
 ghost use Rattle.pdb_container.specs.Info.{features};
 ghost use Rattle.pdb_file_laws.specs.SameFronts.{SameFronts};
 ghost use Rattle.pdb_msf.specs.Msf.{stream_of};
-ghost use Rattle.pdb_msf.specs.StreamMap.{IfFile, IsExcerptOf, with_bytes};
+ghost use Rattle.pdb_msf.specs.MsfLayout.{IfFile, IsSubsetOf, with_bytes};
 ghost use Rattle.pdb_container.specs.TypeRecords.{id_information, type_information};
-ghost use Rattle.pdb_tpi.specs.Ids.{ids};
-ghost use Rattle.pdb_tpi.specs.Types.{types};
+ghost use Rattle.pdb_tpi.specs.IdLeaves.{ids};
+ghost use Rattle.pdb_tpi.specs.TypeLeaves.{types};
 ghost use Rattle.pdb_session.specs.FileParts.{HasItems};
 ghost use Rattle.pdb_session.specs.FrontStreams.{HasStreams, KeepsStreams, named_by_front, named_by_header};
 
@@ -16,14 +16,14 @@ use crate::type_lists::{PlacesOrFault, id_list, type_list};
 use pdb_container::parts::{DEBUG, IDS, INFO, InfoStream, NAMES, SECTIONS, TYPES, debug_stream};
 use pdb_dbi::{optional_stream, read_header, stream_number};
 use pdb_msf::faults::{Fault, part_or_fault};
-use pdb_msf::{Container, Excerpt, Source, SourceFault, StreamMap};
+use pdb_msf::{Container, MsfLayout, Source, SourceError, StreamSubset};
 use std::alloc::Global;
 
 /// The streams of a file that are read before any of its modules.
 #[derive(Drop)]
 pub struct FrontStreams {
     /// All but types and ids.
-    pub excerpt: Excerpt,
+    pub excerpt: StreamSubset,
     /// Where the types start, whose bytes stay in the file.
     pub types: PlacesOrFault,
     /// The same of ids; `None` of a file without ids.
@@ -35,9 +35,9 @@ impl FrontStreams {
     #[tactic(auto, using(crate::proofs::FrontStreamLemmas::blocks_within))]
     pub fn read<S: Source>(
         alloc: Global,
-        map: &StreamMap,
+        map: &MsfLayout,
         source: &mut S,
-    ) -> Result<Self, SourceFault>
+    ) -> Result<Self, SourceError>
         ensures front { IfOk result (λ streams. IfFile (S.bytes source.old) map.now.file_length (λ file.
             SameFronts streams.excerpt (with_bytes file map.now))) }
         ensures types { IfOk result (λ streams. IfFile (S.bytes source.old) map.now.file_length (λ file.
@@ -45,11 +45,11 @@ impl FrontStreams {
         ensures ids { IfOk result (λ streams. IfFile (S.bytes source.old) map.now.file_length (λ file.
             HasItems ids file streams.ids (id_information (with_bytes file map.now)))) }
         ensures inputs { S.bytes source.new ≡ S.bytes source.old }
-        ensures refused { IfErr result (λ fault. fault ≡ SourceFault.Unreadable
+        ensures refused { IfErr result (λ fault. fault ≡ SourceError.Unreadable
             → S.refuses_from source.old ≤ map.now.file_length) }
         ensures refusals { S.refuses_from source.new ≡ S.refuses_from source.old }
     {
-        let mut excerpt = Excerpt::new(alloc, map)?;
+        let mut excerpt = StreamSubset::new(alloc, map)?;
         excerpt.add(alloc, map, source, INFO)?;
         excerpt.add(alloc, map, source, DEBUG)?;
         let front = named_in_excerpt(alloc, &excerpt)?;
@@ -71,19 +71,19 @@ impl FrontStreams {
 // Adds the streams of these numbers to an excerpt.
 fn add_streams<S: Source>(
     alloc: Global,
-    map: &StreamMap,
+    map: &MsfLayout,
     source: &mut S,
     numbers: &[u32],
-    excerpt: &mut Excerpt,
-) -> Result<(), SourceFault>
-    ensures added { OnOk result (IsExcerptOf excerpt.old map.now
+    excerpt: &mut StreamSubset,
+) -> Result<(), SourceError>
+    ensures added { OnOk result (IsSubsetOf excerpt.old map.now
         → IfFile (S.bytes source.old) map.now.file_length (λ file.
         HasStreams excerpt.new (with_bytes file map.now) numbers.now)) }
-    ensures kept { OnOk result (IsExcerptOf excerpt.old map.now
+    ensures kept { OnOk result (IsSubsetOf excerpt.old map.now
         → IfFile (S.bytes source.old) map.now.file_length (λ file.
         KeepsStreams (with_bytes file map.now) excerpt.old excerpt.new)) }
-    ensures excerpt { IsExcerptOf excerpt.old map.now → IsExcerptOf excerpt.new map.now }
-    ensures refused { IfErr result (λ fault. fault ≡ SourceFault.Unreadable
+    ensures excerpt { IsSubsetOf excerpt.old map.now → IsSubsetOf excerpt.new map.now }
+    ensures refused { IfErr result (λ fault. fault ≡ SourceError.Unreadable
         → S.refuses_from source.old ≤ map.now.file_length) }
     ensures inputs { S.bytes source.new ≡ S.bytes source.old }
     ensures refusals { S.refuses_from source.new ≡ S.refuses_from source.old }
@@ -102,15 +102,15 @@ struct NamedByFront {
     has_ids: bool,
 }
 
-fn named_in_excerpt(alloc: Global, excerpt: &Excerpt) -> Result<NamedByFront, SourceFault>
+fn named_in_excerpt(alloc: Global, excerpt: &StreamSubset) -> Result<NamedByFront, SourceError>
     ensures numbers { IfOk result (λ named. named.numbers.items ≡ named_by_front excerpt.now) }
     ensures has_ids { IfOk result (λ named. named.has_ids ≡ (features (stream_of excerpt.now 1)).ids) }
-    ensures memory { IfErr result (λ fault. fault ≡ SourceFault.OutOfMemory) }
+    ensures memory { IfErr result (λ fault. fault ≡ SourceError.OutOfMemory) }
 {
     let container = excerpt.container(alloc)?;
     match named_by_front(alloc, &container) {
         Ok(named) => Ok(named),
-        Err(_) => Err(SourceFault::OutOfMemory),
+        Err(_) => Err(SourceError::OutOfMemory),
     }
 }
 

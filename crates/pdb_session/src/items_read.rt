@@ -5,15 +5,15 @@ ghost use Rattle.pdb_records.specs.declared.ids.IdData.{IdData};
 ghost use Rattle.pdb_records.specs.declared.ids.IdIndex.{IdIndex};
 ghost use Rattle.pdb_records.specs.declared.types.TypeData.{TypeData};
 ghost use Rattle.pdb_records.specs.declared.types.TypeIndex.{TypeIndex};
-ghost use Rattle.pdb_tpi.specs.Ids.{ids};
-ghost use Rattle.pdb_tpi.specs.Types.{types};
+ghost use Rattle.pdb_tpi.specs.IdLeaves.{ids};
+ghost use Rattle.pdb_tpi.specs.TypeLeaves.{types};
 ghost use Rattle.pdb_session.specs.FileParts.{AreAllOf, AreAt, AreIdsOf, AreTypesOf, ItemsOrFault};
 
 use crate::definitions::{mark_definitions, settled_sizes};
-use crate::reach::Reach;
+use crate::reachable_types::ReachableTypes;
 use crate::type_lists::{ItemList, marked_items};
 use pdb_known::EntriesRead;
-use pdb_msf::{Source, SourceFault};
+use pdb_msf::{Source, SourceError};
 use pdb_records::{IdData, IdIndex, ItemInformation, TypeData, TypeIndex};
 use pdb_tpi::{ItemIndex, TypePlaces};
 use std::alloc::{AllocError, Global};
@@ -41,8 +41,8 @@ pub fn read_types<S: Source>(
     alloc: Global,
     source: &mut S,
     list: &ItemList,
-    reach: &Reach,
-) -> Result<Option<TypesRead>, SourceFault>
+    reach: &ReachableTypes,
+) -> Result<Option<TypesRead>, SourceError>
     ensures same { IfOk result (λ read. IfSome (S.bytes source.old) (λ file. (whole : ItemsOrFault TypeIndex TypeData)
         → AreAt types file list.now.places whole → AreTypesOf list.now.places whole read)) }
     ensures inputs { S.bytes source.new ≡ S.bytes source.old }
@@ -58,8 +58,8 @@ fn read_types_at<S: Source>(
     alloc: Global,
     source: &mut S,
     places: &TypePlaces,
-    reach: &Reach,
-) -> Result<TypesRead, SourceFault>
+    reach: &ReachableTypes,
+) -> Result<TypesRead, SourceError>
     ensures same { IfOk result (λ read. IfSome (S.bytes source.old) (λ file. (whole : ItemsOrFault TypeIndex TypeData)
         → AreAt types file (Some places.now) whole → AreTypesOf (Some places.now) whole (Some read))) }
     ensures inputs { S.bytes source.new ≡ S.bytes source.old }
@@ -82,8 +82,8 @@ pub fn read_ids<S: Source>(
     alloc: Global,
     source: &mut S,
     list: &ItemList,
-    reach: &Reach,
-) -> Result<Option<IdsRead>, SourceFault>
+    reach: &ReachableTypes,
+) -> Result<Option<IdsRead>, SourceError>
     ensures same { IfOk result (λ read. IfSome (S.bytes source.old) (λ file. (whole : ItemsOrFault IdIndex IdData)
         → AreAt ids file list.now.places whole → AreIdsOf list.now.places whole read)) }
     ensures inputs { S.bytes source.new ≡ S.bytes source.old }
@@ -99,8 +99,8 @@ fn read_ids_at<S: Source>(
     alloc: Global,
     source: &mut S,
     places: &TypePlaces,
-    reach: &Reach,
-) -> Result<IdsRead, SourceFault>
+    reach: &ReachableTypes,
+) -> Result<IdsRead, SourceError>
     ensures same { IfOk result (λ read. IfSome (S.bytes source.old) (λ file. (whole : ItemsOrFault IdIndex IdData)
         → AreAt ids file (Some places.now) whole → AreIdsOf (Some places.now) whole (Some read))) }
     ensures inputs { S.bytes source.new ≡ S.bytes source.old }
@@ -121,7 +121,7 @@ pub fn read_all_items<I: ItemIndex, S: Source>(
     alloc: Global,
     source: &mut S,
     list: &ItemList,
-) -> Result<Option<ItemInformation<I, I::Data>>, SourceFault>
+) -> Result<Option<ItemInformation<I, I::Data>>, SourceError>
     ensures same { IfOk result (λ read. IfSome (S.bytes source.old) (λ file. (whole : ItemsOrFault I I.Data)
         → AreAt I.meaning file list.now.places whole → AreAllOf list.now.places whole read)) }
     ensures inputs { S.bytes source.new ≡ S.bytes source.old }

@@ -4,14 +4,14 @@ ghost use Rattle.std.specs.Prelude.{◌≡◌, ◌≤◌, List, All, false, map,
 ghost use Rattle.pdb_container.specs.DebugRecords.{tabled};
 ghost use Rattle.pdb_container.specs.ModulePlaces.{ModuleOrFault, module_of, place_at};
 ghost use Rattle.pdb_container.specs.UnnamedCode.{named_modules};
-ghost use Rattle.pdb_msf.specs.StreamMap.{IfFile, with_bytes};
+ghost use Rattle.pdb_msf.specs.MsfLayout.{IfFile, with_bytes};
 ghost use Rattle.pdb_repairs.specs.Repaired.{repaired_read};
 ghost use Rattle.pdb_session.specs.FileParts.{AreModulesOf, HasNames, IsModuleOf, IsReadFrom};
 
 use pdb_container::parts::{
     ModuleInfoResult, ModulePlace, has_unnamed_code, module_in_stream, name_unnamed_code,
 };
-use pdb_container::{Source, SourceFault, StreamMap};
+use pdb_container::{MsfLayout, Source, SourceError};
 use pdb_known::KnownRecords;
 use pdb_msf::part_of_source;
 use pdb_repairs::{Repair, repair_module_info};
@@ -29,12 +29,12 @@ pub struct ModuleRead {
 /// Reads the modules at these positions, each as its own stream has it. What is broken in them is taken out, and told.
 pub fn read_modules_at<S: Source>(
     alloc: Global,
-    map: &StreamMap,
+    map: &MsfLayout,
     source: &mut S,
     places: &[ModulePlace],
     positions: &[usize],
     repairs: &mut Vec<Repair>,
-) -> Result<Vec<ModuleRead>, SourceFault>
+) -> Result<Vec<ModuleRead>, SourceError>
     ensures answer { IfOk result (λ read. IfFile (S.bytes source.old) map.now.file_length (λ file.
         All (IsReadFrom file map.now places.now) read.items)) }
     ensures inputs { S.bytes source.new ≡ S.bytes source.old }
@@ -49,12 +49,12 @@ pub fn read_modules_at<S: Source>(
 // Reads the module at a position.
 fn read_module_at<S: Source>(
     alloc: Global,
-    map: &StreamMap,
+    map: &MsfLayout,
     source: &mut S,
     places: &[ModulePlace],
     position: usize,
     repairs: &mut Vec<Repair>,
-) -> Result<ModuleRead, SourceFault>
+) -> Result<ModuleRead, SourceError>
     ensures answer { IfOk result (λ read. IfFile (S.bytes source.old) map.now.file_length (λ file.
         IsReadFrom file map.now places.now read)) }
     ensures inputs { S.bytes source.new ≡ S.bytes source.old }
@@ -74,10 +74,10 @@ fn place_at(places: &[ModulePlace], position: usize) -> ModulePlace
 /// Reads the modules at all of these places, each as its own stream has it.
 pub fn read_modules<S: Source>(
     alloc: Global,
-    streams: &StreamMap,
+    streams: &MsfLayout,
     source: &mut S,
     places: &[ModulePlace],
-) -> Result<Vec<ModuleInfoResult>, SourceFault>
+) -> Result<Vec<ModuleInfoResult>, SourceError>
     ensures answer { IfOk result (λ infos. IfFile (S.bytes source.old) streams.now.file_length (λ file.
         infos.items ≡ map (module_of (with_bytes file streams.now)) places.now)) }
     ensures inputs { S.bytes source.new ≡ S.bytes source.old }
@@ -92,13 +92,13 @@ pub fn read_modules<S: Source>(
 // The records of a module at this place, or why they can't be read. Code apart from its function has no name there.
 fn read_module<S: Source>(
     alloc: Global,
-    map: &StreamMap,
+    map: &MsfLayout,
     source: &mut S,
     place: ModulePlace,
-) -> Result<ModuleInfoResult, SourceFault>
+) -> Result<ModuleInfoResult, SourceError>
     ensures answer { IfOk result (λ read. IfFile (S.bytes source.old) map.now.file_length (λ file.
         read ≡ module_of (with_bytes file map.now) place)) }
-    ensures refused { IfErr result (λ fault. fault ≡ SourceFault.Unreadable
+    ensures refused { IfErr result (λ fault. fault ≡ SourceError.Unreadable
         → S.refuses_from source.old ≤ map.now.file_length) }
     ensures inputs { S.bytes source.new ≡ S.bytes source.old }
     ensures refusals { S.refuses_from source.new ≡ S.refuses_from source.old }

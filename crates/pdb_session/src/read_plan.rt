@@ -1,28 +1,28 @@
-//! When everything that is left of a file is read at once.
+//! When a session stops reading single modules, and reads the rest of the file at once.
 
-/// How often modules are read that are asked for, each time with the tables of a context made anew. After that
-/// everything that is left is read.
+/// How often single modules are read. Each time, the tables of a context are made anew, so the next time all of the
+/// file is read.
 const ROUNDS: u32 = 16;
 
-/// How many modules may be asked for before everything that is left is read, where these are more than a quarter of
-/// all.
+/// A session reads so many modules one by one, and a quarter of all modules if that is more. For others it reads all of
+/// the file.
 const MODULES: usize = 16;
 
-/// How many addresses asked for at once are a sign of many more: then everything that is left is read, where more than
-/// a sixteenth of all modules are asked for.
+/// Somebody who asks for so many addresses at once will ask for more: a session then reads no more than a sixteenth of
+/// all modules one by one.
 const MANY: usize = 2048;
 
-/// How much of a file was asked for.
+/// How much of a file was read so far, by which a session decides how to go on.
 #[derive(Clone, Copy, Drop)]
 pub struct ReadPlan {
     /// How often modules were read.
     rounds: u32,
-    /// How many modules were asked for.
+    /// How many modules were read.
     asked: usize,
 }
 
 impl ReadPlan {
-    /// Nothing was asked for.
+    /// The plan of a file of which no module was read.
     pub fn new() -> Self {
         ReadPlan {
             rounds: 0,
@@ -30,8 +30,8 @@ impl ReadPlan {
         }
     }
 
-    /// Whether everything that is left is read, where so many addresses ask for so many modules more, of so many in
-    /// all.
+    /// Whether all of the file is read now: `addresses` addresses need `wanted` modules that were not read, and the
+    /// file has `modules` modules.
     pub fn reads_all(&mut self, wanted: usize, addresses: usize, modules: usize) -> bool {
         self.rounds = self.rounds.saturating_add(1);
         self.asked = self.asked.saturating_add(wanted);

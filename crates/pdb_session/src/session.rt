@@ -7,17 +7,19 @@ ghost use Rattle.pdb_errors.specs.Outcomes.{Refuses};
 ghost use Rattle.pdb_addr2line.specs.ContextData.{records_refusal};
 ghost use Rattle.pdb_known.specs.Known.{all_read};
 ghost use Rattle.pdb_session.specs.CodeOwners.{lacks_owner, owners_of};
-ghost use Rattle.pdb_session.specs.FileParts.{IsPartOfFile, OpensFile, ReadsFile, first_known};
+ghost use Rattle.pdb_session.specs.FileParts.{IsPartOfFile, OpensFile, ReadsFile, RefusesFile, first_known};
 ghost use Rattle.pdb_session.specs.Session.{SameFile, needs, needs_none};
 
 use crate::code_owners::CodeOwners;
+use crate::front_records::FileFront;
+use crate::module_reader::{FileReader, no_entries};
 use crate::read_plan::ReadPlan;
-use crate::reader::{FileReader, no_entries};
 use crate::session_context::SessionData;
-use crate::session_fault::SessionFault;
+use crate::session_error::SessionError;
 use crate::untold_repairs::UntoldRepairs;
 use pdb_addr2line::Error;
-use pdb_container::{PdbFile, Source, SourceFault};
+use pdb_container::parts::code_refusal;
+use pdb_container::{Source, SourceError};
 use pdb_known::{KnownRecords, is_closed};
 use pdb_records::PDB;
 use pdb_repairs::{Repair, repair_records};
@@ -93,36 +95,37 @@ impl<S: Source + Drop> PdbSession<S> {
     ///
     /// # Errors
     ///
-    /// [`SessionFault::File`] where the file is no PDB file that can be read, or a range of it can't be, and
-    /// [`SessionFault::Refused`] where nothing can be answered over its records.
-    pub fn open(alloc: Global, source: S, file_length: usize) -> Result<Opened<S>, SessionFault>
+    /// [`SessionError::File`] where the file is no PDB file that can be read, or a range of it can't be, and
+    /// [`SessionError::Refused`] where nothing can be answered over its records.
+    pub fn open(alloc: Global, source: S, file_length: usize) -> Result<Opened<S>, SessionError>
         ensures bytes { IfOk result (λ opened. opened.session.bytes ≡ S.bytes source) }
         ensures length { IfOk result (λ opened. opened.session.file_length ≡ file_length) }
+        ensures refused { RefusesFile result (S.bytes source) file_length }
     {
-        let (reader, file) = FileReader::open(alloc, source, file_length)?;
-        Self::over_file(alloc, reader, file)
+        let (reader, front) = FileReader::open(alloc, source, file_length)?;
+        Self::over_file(alloc, reader, front)
     }
 
     // A session over a file of which everything was read but types, ids and modules.
     fn over_file(
         alloc: Global,
         reader: FileReader<S>,
-        file: PdbFile,
-    ) -> Result<Opened<S>, SessionFault>
-        requires file { OpensFile (S.bytes reader.source) reader.map reader.places.items reader.lists file.records }
+        front: FileFront,
+    ) -> Result<Opened<S>, SessionError>
+        requires file { OpensFile (S.bytes reader.source) reader.map reader.places.items reader.lists front.records }
         ensures bytes { IfOk result (λ opened. opened.session.bytes ≡ S.bytes reader.source) }
         ensures length { IfOk result (λ opened. opened.session.file_length ≡ reader.map.file_length) }
-        ensures records { IfOk result (λ opened. opened.session.known.records ≡ repaired file.records) }
-        ensures names_only { IfOk result (λ opened. opened.names_only ≡ file.names_only) }
-        ensures repairs { IfOk result (λ opened. opened.repairs.items ≡ repairs_of file.records) }
+        ensures records { IfOk result (λ opened. opened.session.known.records ≡ repaired front.records) }
+        ensures names_only { IfOk result (λ opened. opened.names_only ≡ front.names_only) }
+        ensures repairs { IfOk result (λ opened. opened.repairs.items ≡ repairs_of front.records) }
+        ensures refused { RefusesFile result (S.bytes reader.source) reader.map.file_length }
     {
-        let PdbFile {
+        let FileFront {
             mut records,
-            refusal,
             names_only,
-        } = file;
-        if let Some(refusal) = refusal {
-            return Err(SessionFault::Refused(refusal));
+        } = front;
+        if let Some(refusal) = code_refusal(&records) {
+            return Err(SessionError::Refused(refusal));
         }
         let repairs = repair_records(alloc, &mut records)?;
         let session = Self::over_front(alloc, records, reader)?;
@@ -208,9 +211,9 @@ impl<S: Source + Drop> PdbSession<S> {
     ///
     /// # Errors
     ///
-    /// [`SourceFault::Unreadable`] where a range of the file can't be read, and [`SourceFault::OutOfMemory`]. The same
+    /// [`SourceError::Unreadable`] where a range of the file can't be read, and [`SourceError::OutOfMemory`]. The same
     /// addresses may be asked for again.
-    pub fn read_for(&mut self, addresses: &[u32]) -> Result<Vec<Repair>, SourceFault>
+    pub fn read_for(&mut self, addresses: &[u32]) -> Result<Vec<Repair>, SourceError>
         ensures enough { OnOk result (needs_none self.new.known addresses.now ≡ true) }
         ensures front { SameFront self.old.known.records self.new.known.records }
         ensures file { SameFile self.old self.new }
@@ -225,7 +228,7 @@ impl<S: Source + Drop> PdbSession<S> {
     /// # Errors
     ///
     /// Those of [`read_for`](PdbSession::read_for).
-    pub fn read_all(&mut self) -> Result<Vec<Repair>, SourceFault>
+    pub fn read_all(&mut self) -> Result<Vec<Repair>, SourceError>
         ensures all { OnOk result (self.new.known ≡ all_read self.new.known.records) }
         ensures front { SameFront self.old.known.records self.new.known.records }
         ensures file { SameFile self.old self.new }
@@ -235,7 +238,7 @@ impl<S: Source + Drop> PdbSession<S> {
     }
 
     // Reads everything that is left, unless what was read is enough for answers at these addresses.
-    fn read_rest_for(&mut self, addresses: &[u32]) -> Result<(), SourceFault>
+    fn read_rest_for(&mut self, addresses: &[u32]) -> Result<(), SourceError>
         ensures enough { OnOk result (needs_none self.new.known addresses.now ≡ true) }
         ensures front { SameFront self.old.known.records self.new.known.records }
         ensures file { SameFile self.old self.new }
@@ -248,7 +251,7 @@ impl<S: Source + Drop> PdbSession<S> {
     }
 
     // Reads everything that is left.
-    fn read_rest(&mut self) -> Result<(), SourceFault>
+    fn read_rest(&mut self) -> Result<(), SourceError>
         ensures all { OnOk result (self.new.known ≡ all_read self.new.known.records) }
         ensures front { SameFront self.old.known.records self.new.known.records }
         ensures file { SameFile self.old self.new }
@@ -281,7 +284,7 @@ impl<S: Source + Drop> PdbSession<S> {
     }
 
     // Reads the modules whose code lies at these addresses, or everything where that is likely to be wanted.
-    fn read_owners(&mut self, addresses: &[u32]) -> Result<(), SourceFault>
+    fn read_owners(&mut self, addresses: &[u32]) -> Result<(), SourceError>
         ensures front { SameFront self.old.known.records self.new.known.records }
         ensures file { SameFile self.old self.new }
     {

@@ -20,7 +20,7 @@ use std::marker::Model;
 
 /// Why a question about an address has no answer.
 #[derive(Debug, Drop, thiserror::Error)]
-pub enum QuestionFault {
+pub enum QuestionError {
     /// Something that the answer depends on was not read: [`PdbSession::read_for`](crate::PdbSession::read_for) reads
     /// it.
     #[error("not all of the file was read")]
@@ -184,10 +184,10 @@ impl<'a, 's> SessionContext<'a, 's> {
     ///
     /// # Errors
     ///
-    /// [`QuestionFault::NotRead`] where something is still to be read for the answer, and `OutOfMemory` where memory
+    /// [`QuestionError::NotRead`] where something is still to be read for the answer, and `OutOfMemory` where memory
     /// runs out.
-    pub fn find_function(&mut self, address: u32) -> Result<Option<Function>, QuestionFault>
-        ensures not_read { needs self.old.known address ≡ true → result ≡ Err QuestionFault.NotRead }
+    pub fn find_function(&mut self, address: u32) -> Result<Option<Function>, QuestionError>
+        ensures not_read { needs self.old.known address ≡ true → result ≡ Err QuestionError.NotRead }
         ensures answer { needs self.old.known address ≡ false
             → (whole : Records) (inputs : ContextInputs Records) → IsPartOf self.old.known whole
             → context_of self.old.flags whole ≡ Ok inputs → GivesFunction result inputs address }
@@ -199,11 +199,11 @@ impl<'a, 's> SessionContext<'a, 's> {
         ensures flags { self.new.flags ≡ self.old.flags }
     {
         if self.needs(address) {
-            return Err(QuestionFault::NotRead);
+            return Err(QuestionError::NotRead);
         }
         let found = match self.context.find_named_function(address) {
             Ok(found) => found,
-            Err(error) => return Err(QuestionFault::Records(error)),
+            Err(error) => return Err(QuestionError::Records(error)),
         };
         Ok(found)
     }
@@ -214,10 +214,10 @@ impl<'a, 's> SessionContext<'a, 's> {
     ///
     /// # Errors
     ///
-    /// [`QuestionFault::NotRead`] where something is still to be read for the answer, and else
-    /// [`QuestionFault::Records`] with the errors of `Context::find_frames`.
-    pub fn find_frames(&mut self, address: u32) -> Result<Option<FunctionFrames<'a>>, QuestionFault>
-        ensures not_read { needs self.old.known address ≡ true → result ≡ Err QuestionFault.NotRead }
+    /// [`QuestionError::NotRead`] where something is still to be read for the answer, and else
+    /// [`QuestionError::Records`] with the errors of `Context::find_frames`.
+    pub fn find_frames(&mut self, address: u32) -> Result<Option<FunctionFrames<'a>>, QuestionError>
+        ensures not_read { needs self.old.known address ≡ true → result ≡ Err QuestionError.NotRead }
         ensures answer { needs self.old.known address ≡ false
             → (whole : Records) (inputs : ContextInputs Records) → IsPartOf self.old.known whole
             → context_of self.old.flags whole ≡ Ok inputs
@@ -231,11 +231,11 @@ impl<'a, 's> SessionContext<'a, 's> {
         ensures flags { self.new.flags ≡ self.old.flags }
     {
         if self.needs(address) {
-            return Err(QuestionFault::NotRead);
+            return Err(QuestionError::NotRead);
         }
         let found = match self.context.find_named_frames(address) {
             Ok(found) => found,
-            Err(error) => return Err(QuestionFault::Records(error)),
+            Err(error) => return Err(QuestionError::Records(error)),
         };
         Ok(found)
     }

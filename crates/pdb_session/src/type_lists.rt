@@ -3,7 +3,7 @@
 ghost use Rattle.std.specs.Prelude.{◌≡◌, ◌≤◌, length, None, IfErr, IfOk, IfSome, IsOkAnd};
 ghost use Rattle.std.specs.Result.{result_unwrap_or};
 ghost use Rattle.pdb_msf.specs.StreamBlocks.{blocks_read, said_in};
-ghost use Rattle.pdb_tpi.specs.Ids.{ids};
+ghost use Rattle.pdb_tpi.specs.IdLeaves.{ids};
 ghost use Rattle.pdb_tpi.specs.TypePlaces.{LieIn, list_at};
 ghost use Rattle.pdb_container.specs.TypeRecords.{ids_in};
 ghost use Rattle.pdb_session.specs.FileParts.{HasItems, HasPlaces, first_information, listed_in, nothing_read};
@@ -11,7 +11,7 @@ ghost use Rattle.pdb_session.specs.MarkedItems.{marked_items};
 
 use pdb_known::EntriesRead;
 use pdb_msf::faults::NO_STREAM;
-use pdb_msf::{Source, SourceFault, StreamBlocks};
+use pdb_msf::{Source, SourceError, StreamBlocks};
 use pdb_records::{Item, ItemInformation, Reading, StreamError};
 use pdb_tpi::{ItemIndex, RecordWindow, TypePlaces};
 use std::alloc::{AllocError, Global};
@@ -42,7 +42,7 @@ impl ItemList {
         source: &mut S,
         window: &mut RecordWindow,
         position: usize,
-    ) -> Result<Option<Item<I, I::Data>>, SourceFault>
+    ) -> Result<Option<Item<I, I::Data>>, SourceError>
         ensures inputs { S.bytes source.new ≡ S.bytes source.old }
     {
         match &self.places {
@@ -99,11 +99,11 @@ pub fn type_list<S: Source>(
     alloc: Global,
     source: &mut S,
     blocks: Result<StreamBlocks, StreamError>,
-) -> Result<PlacesOrFault, SourceFault>
+) -> Result<PlacesOrFault, SourceError>
     ensures answer { IfOk result (λ list. IfSome (S.bytes source.old) (λ file.
         IfOk blocks (λ blocks. length file ≡ blocks.file_length)
         → HasPlaces file list (listed_in file blocks))) }
-    ensures refused { IfErr result (λ fault. fault ≡ SourceFault.Unreadable
+    ensures refused { IfErr result (λ fault. fault ≡ SourceError.Unreadable
         → IsOkAnd blocks (λ blocks. S.refuses_from source.old ≤ blocks.file_length)) }
     ensures inputs { S.bytes source.new ≡ S.bytes source.old }
     ensures refusals { S.refuses_from source.new ≡ S.refuses_from source.old }
@@ -123,11 +123,11 @@ pub fn id_list<S: Source>(
     alloc: Global,
     source: &mut S,
     blocks: Result<StreamBlocks, StreamError>,
-) -> Result<PlacesOrFault, SourceFault>
+) -> Result<PlacesOrFault, SourceError>
     ensures answer { IfOk result (λ list. IfSome (S.bytes source.old) (λ file.
         IfOk blocks (λ blocks. length file ≡ blocks.file_length)
         → HasItems ids file list (ids_in (blocks_read file blocks)))) }
-    ensures refused { IfErr result (λ fault. fault ≡ SourceFault.Unreadable
+    ensures refused { IfErr result (λ fault. fault ≡ SourceError.Unreadable
         → IsOkAnd blocks (λ blocks. S.refuses_from source.old ≤ blocks.file_length)) }
     ensures inputs { S.bytes source.new ≡ S.bytes source.old }
     ensures refusals { S.refuses_from source.new ≡ S.refuses_from source.old }
@@ -175,7 +175,7 @@ pub fn marked_items<I: ItemIndex, S: Source>(
     source: &mut S,
     places: &TypePlaces,
     marks: &[bool],
-) -> Result<ItemInformation<I, I::Data>, SourceFault>
+) -> Result<ItemInformation<I, I::Data>, SourceError>
     ensures answer { IfOk result (λ items. IfSome (said_in (S.bytes source.old) places.now.records.blocks) (λ stream.
         LieIn places.now stream → items ≡ marked_items I.meaning (list_at places.now stream) marks.now)) }
     ensures inputs { S.bytes source.new ≡ S.bytes source.old }

@@ -5,7 +5,7 @@ use pdb_repairs::Repair;
 use std::alloc::{AllocError, Global};
 use std::collections::BTreeSet;
 
-/// What was broken in modules that were read, and wasn't told yet: one module behind the other.
+/// What was broken in modules that were read, and wasn't told yet: one module after the other.
 #[derive(Drop)]
 pub struct UntoldRepairs {
     repairs: Vec<Repair>,
@@ -57,7 +57,12 @@ impl UntoldRepairs {
 // Whether a part is of one of these modules.
 fn is_of_one(modules: &BTreeSet<usize>, repair: Repair) -> bool {
     match repair {
-        Repair::GlobalSymbols(_) | Repair::Modules(_) | Repair::Contributions(_) => false,
+        Repair::GlobalSymbols(_)
+        | Repair::NoGlobalSymbols(_)
+        | Repair::NoTypes(_)
+        | Repair::NoIds(_)
+        | Repair::Modules(_)
+        | Repair::Contributions(_) => false,
         Repair::ModuleContributions { module_index }
         | Repair::Module { module_index, .. }
         | Repair::Symbols { module_index, .. }

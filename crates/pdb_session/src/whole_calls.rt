@@ -2,9 +2,9 @@
 
 ghost use Rattle.std.specs.Prelude.{◌≡◌, Err, IfNone, IfSome, false, true};
 ghost use Rattle.pdb_session.specs.Session.{EndsCalls, GivesNextStart, GivesStarts};
-ghost use Rattle.pdb_session.specs.declared.session_context.QuestionFault.TheVariants.{NotRead};
+ghost use Rattle.pdb_session.specs.declared.session_context.QuestionError.TheVariants.{NotRead};
 
-use crate::session_context::{QuestionFault, SessionContext};
+use crate::session_context::{QuestionError, SessionContext};
 use pdb_addr2line::{Answer, Call};
 use pdb_records::PDB;
 
@@ -22,19 +22,19 @@ impl<'a> SessionContext<'a, '_> {
     ///
     /// # Errors
     ///
-    /// [`QuestionFault::NotRead`] where some records were not read:
+    /// [`QuestionError::NotRead`] where some records were not read:
     /// [`PdbSession::read_all`](crate::PdbSession::read_all) reads them. `OutOfMemory` where memory runs out.
-    pub fn start_addresses(&mut self) -> Result<Vec<u32>, QuestionFault>
+    pub fn start_addresses(&mut self) -> Result<Vec<u32>, QuestionError>
         ensures not_read { self.old.known.all ≡ false → result ≡ Err NotRead }
         ensures answer { self.old.known.all ≡ true → GivesStarts result self.old.state.inputs }
         ensures unchanged { self.new ≡ self.old }
     {
         if !self.part.has_all() {
-            return Err(QuestionFault::NotRead);
+            return Err(QuestionError::NotRead);
         }
         match self.context.start_addresses() {
             Ok(starts) => Ok(starts),
-            Err(error) => Err(QuestionFault::Records(error)),
+            Err(error) => Err(QuestionError::Records(error)),
         }
     }
 
@@ -43,17 +43,17 @@ impl<'a> SessionContext<'a, '_> {
     /// # Errors
     ///
     /// Those of `start_addresses`.
-    pub fn next_start_address(&mut self, address: u32) -> Result<Option<u32>, QuestionFault>
+    pub fn next_start_address(&mut self, address: u32) -> Result<Option<u32>, QuestionError>
         ensures not_read { self.old.known.all ≡ false → result ≡ Err NotRead }
         ensures answer { self.old.known.all ≡ true → GivesNextStart result self.old.state.inputs address }
         ensures unchanged { self.new ≡ self.old }
     {
         if !self.part.has_all() {
-            return Err(QuestionFault::NotRead);
+            return Err(QuestionError::NotRead);
         }
         let start = match self.context.next_start_address(address) {
             Ok(start) => start,
-            Err(error) => return Err(QuestionFault::Records(error)),
+            Err(error) => return Err(QuestionError::Records(error)),
         };
         Ok(start)
     }
@@ -63,14 +63,14 @@ impl<'a> SessionContext<'a, '_> {
     ///
     /// # Errors
     ///
-    /// [`QuestionFault::NotRead`] where some records were not read, and then no call is answered. `OutOfMemory` where
+    /// [`QuestionError::NotRead`] where some records were not read, and then no call is answered. `OutOfMemory` where
     /// memory runs out: the list is then longer by the answers of the calls before the one for which there was no
     /// memory.
     pub fn run_calls(
         &mut self,
         calls: &[Call<'_>],
         answers: &mut Vec<Answer<'a>>,
-    ) -> Result<(), QuestionFault>
+    ) -> Result<(), QuestionError>
         ensures not_read { self.old.known.all ≡ false → result ≡ Err NotRead }
         ensures answers { self.old.known.all ≡ true → EndsCalls result self.old.state self.new.state calls.now
             answers.old.items answers.new.items }
@@ -80,10 +80,10 @@ impl<'a> SessionContext<'a, '_> {
         ensures flags { self.new.flags ≡ self.old.flags }
     {
         if !self.part.has_all() {
-            return Err(QuestionFault::NotRead);
+            return Err(QuestionError::NotRead);
         }
         if let Err(error) = self.context.run_calls(calls, answers) {
-            return Err(QuestionFault::Records(error));
+            return Err(QuestionError::Records(error));
         }
         Ok(())
     }

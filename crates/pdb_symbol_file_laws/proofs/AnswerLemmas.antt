@@ -4,18 +4,18 @@ use Rattle.std.proofs.Common.{map, flat_map, find, All, Option, Some, None, opti
 use Rattle.std.specs.List.{AllByRecursion}
 use Rattle.pdb_frames.specs.Frame.{FramesInfo}
 use Rattle.pdb_tables.specs.declared.segment.Segment.{Segment}
-use Rattle.pdb_breakpad.specs.RecordTypes.{FunctionRecords, InlineRecord, InlinedCall, Numbers, Place, Span}
+use Rattle.pdb_breakpad.specs.RecordTypes.{FunctionRecords, InlineRecord, InlinedCall, Numbers, SourceLocation, Span}
 use Rattle.pdb_breakpad.specs.AddressSpans.{content_at, is_over}
 use Rattle.pdb_breakpad.specs.FunctionRecords.{Reads}
-use Rattle.pdb_breakpad.specs.Functions.{AreFunctions, ShowsOver, StandBetween, function_over}
-use Rattle.pdb_breakpad.specs.Functions.{is_over as is_function_over}
-use Rattle.pdb_breakpad.specs.Functions.{turned}
+use Rattle.pdb_breakpad.specs.FunctionWalk.{AreFunctions, ShowsOver, StandBetween, function_over}
+use Rattle.pdb_breakpad.specs.FunctionWalk.{is_over as is_function_over}
+use Rattle.pdb_breakpad.specs.FunctionWalk.{turned}
 use Rattle.pdb_breakpad.specs.InlineRecords.{calls_at}
 use Rattle.pdb_breakpad.specs.NumberedCode.{AreCalls, IsOptionalPlace, IsPlace}
 use Rattle.pdb_breakpad.specs.ShownFrames.{ShownCall, ShownFrame, ShownPlace, answer_shown, own_name, stack_read}
 use Rattle.pdb_breakpad.specs.SymbolFile.{symbol_file_text}
 use Rattle.pdb_breakpad.specs.FunctionTexts.{inline_before, inline_records_from}
-use Rattle.pdb_breakpad.specs.ModuleRecords.{IsModuleLine, with_breaks}
+use Rattle.pdb_breakpad.specs.ModuleRecord.{IsModuleLine, with_breaks}
 use Rattle.pdb_breakpad.specs.WrittenRecords.{FitNumbers, FitTypes, InlinesAscend}
 use Rattle.pdb_tables.specs.InOrder.{in_order}
 use Rattle.pdb_symbol_file_laws.specs.RecordReader.{frames_read, function_at, place_read}
@@ -40,7 +40,7 @@ lines_behind all address [] lines = refl
 lines_behind all address (inlined ∷ inlines) lines = lines_behind all address inlines lines
 
 -- a reader finds the place of the first line over an address
-line_found : (all : List SymbolLine) (address : ℕ) (spans : List (Span Place))
+line_found : (all : List SymbolLine) (address : ℕ) (spans : List (Span SourceLocation))
     → AllByRecursion (λ span. span.start ≤ span.last) spans
     → place_read all address (map line_read spans) ≡ option_map (place_shown all) (content_at address spans)
 line_found all address [] order = refl
@@ -80,13 +80,13 @@ stack_on_one_line name (call ∷ calls) place =
 
 module _ (front : List (List ℕ)) (numbers : Numbers) (lines : List SymbolLine) where
   -- a place is shown with the names of all records
-  place_is : (place : Place) (shown : ShownPlace) → IsPlace numbers place shown
+  place_is : (place : SourceLocation) (shown : ShownPlace) → IsPlace numbers place shown
       → place_shown (whole front numbers lines) place ≡ place_on_one_line shown
   place_is place shown is =
       λ i. record { file = (file_is front numbers lines place.file shown.file is.0) i; line = is.1 i }
 
   -- so is one that may be missing
-  optional_place_is : (place : Option Place) (shown : Option ShownPlace) → IsOptionalPlace numbers place shown
+  optional_place_is : (place : Option SourceLocation) (shown : Option ShownPlace) → IsOptionalPlace numbers place shown
       → option_map (place_shown (whole front numbers lines)) place ≡ option_map place_on_one_line shown
   optional_place_is None None is = refl
   optional_place_is None (Some shown) is = absurd is

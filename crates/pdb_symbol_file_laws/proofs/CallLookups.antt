@@ -5,7 +5,7 @@ use Rattle.std.proofs.Common.{option_map, if◌then◌else◌, ne_eqb, eq-eqb, l
 use Rattle.std.specs.List.{AllByRecursion}
 use Rattle.std.specs.Ordering.{is_lt, nat_cmp, ordering_then}
 use Rattle.std.specs.declared.cmp.Ordering.TheVariants.{Less, Equal, Greater}
-use Rattle.pdb_breakpad.specs.RecordTypes.{InlineRecord, InlinedCall, Place, Span}
+use Rattle.pdb_breakpad.specs.RecordTypes.{InlineRecord, InlinedCall, SourceLocation, Span}
 use Rattle.pdb_breakpad.specs.AddressSpans.{content_at, is_over}
 use Rattle.pdb_breakpad.specs.FunctionTexts.{inline_records_from}
 use Rattle.pdb_breakpad.specs.InlineRecords.{call_at}
@@ -23,7 +23,7 @@ call_shown all call = record {
 }
 
 -- a place as a reader shows it
-abbrev pub place_shown : List SymbolLine → Place → ShownPlace
+abbrev pub place_shown : List SymbolLine → SourceLocation → ShownPlace
 place_shown all place = record { file = file_named place.file all; line = place.line }
 
 -- whether the record of an inlined call is of a level and over an address
@@ -39,13 +39,13 @@ abbrev pub content : InlineRecord → InlinedCall
 content inlined = inlined.span.content
 
 -- no record of a line is one of an inlined call
-no_call : (all : List SymbolLine) (address level : ℕ) (spans : List (Span Place))
+no_call : (all : List SymbolLine) (address level : ℕ) (spans : List (Span SourceLocation))
     → call_read all address level (map line_read spans) ≡ None
 no_call all address level [] = refl
 no_call all address level (span ∷ spans) = no_call all address level spans
 
 -- a reader finds the first record of a level over an address
-pub first_call : (all : List SymbolLine) (address level : ℕ) (inlines : List InlineRecord) (spans : List (Span Place))
+pub first_call : (all : List SymbolLine) (address level : ℕ) (inlines : List InlineRecord) (spans : List (Span SourceLocation))
     → AllByRecursion IsOrdered inlines
     → call_read all address level (map inline_read inlines ++ map line_read spans)
     ≡ option_map (λ inlined. call_shown all (content inlined)) (find (is_at address level) inlines)
@@ -65,7 +65,7 @@ first_call all address level (inlined ∷ inlines) spans order =
     by true rest = refl
     by false rest = rest
 
--- the record of an inlined call that begins later on the same level belongs behind the other
+-- the record of an inlined call that begins later on the same level belongs after the other
 pub not_before : (s t level : ℕ) → s ≤ t → is_lt (ordering_then (nat_cmp t s) (nat_cmp level level)) ≡ false
 not_before s t level order =
     ap (λ x. is_lt (ordering_then (cond x Less (cond (t == s) Equal Greater)) (nat_cmp level level))) (le-ltb t s order)

@@ -4,14 +4,14 @@ use Rattle.pdb_tables.specs.declared.segment.Segment.{Segment}
 use Rattle.pdb_breakpad.specs.RecordTypes.{FunctionRecords, Numbers}
 use Rattle.pdb_breakpad.specs.FunctionTexts.{function_text}
 use Rattle.pdb_breakpad.specs.SymbolFile.{names_text, symbol_file_text}
-use Rattle.pdb_breakpad.specs.ModuleRecords.{IsModuleLine, with_breaks}
+use Rattle.pdb_breakpad.specs.ModuleRecord.{IsModuleLine, with_breaks}
 use Rattle.pdb_breakpad.specs.WrittenRecords.{FitNumbers, FitTypes}
 use Rattle.pdb_symbol_file_laws.specs.SymbolFileRecords.{function_read, names_read}
 use Rattle.pdb_symbol_file_laws.specs.SymbolTextReader.{OtherLine, read_text}
 use Rattle.pdb_symbol_file_laws.proofs.FrontLemmas.{front_read}
 use Rattle.pdb_symbol_file_laws.proofs.TextLemmas.{records_read}
 
--- the records that were written are read of a whole file, behind those of its module
+-- the records that were written are read of a whole file, after those of its module
 pub file_read : (front : List (List ℕ)) (numbers : Numbers) (parameters : List (Segment ℕ))
     (functions : List FunctionRecords) → All IsModuleLine front → FitNumbers numbers → All (FitTypes parameters) functions
     → read_text (symbol_file_text (with_breaks front) numbers parameters functions)

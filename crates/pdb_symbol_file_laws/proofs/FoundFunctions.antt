@@ -3,9 +3,9 @@ use Rattle.std.proofs.Common.{◌≡◌, ◌∙◌, ℕ, ◌+◌, ◌≤◌, Boo
 use Rattle.std.proofs.Common.{refl, ap, arith, flat_map, Option, Some, None, if◌then◌else◌}
 use Rattle.std.proofs.Common.{ltb-false, lt-ltb, le-ltb}
 use Rattle.pdb_breakpad.specs.RecordTypes.{FunctionRecords}
-use Rattle.pdb_breakpad.specs.Functions.{StandBetween, function_over, is_over}
+use Rattle.pdb_breakpad.specs.FunctionWalk.{StandBetween, function_over, is_over}
 use Rattle.pdb_symbol_file_laws.proofs.FunctionLookups.{lies_before, found_of, one_found, takes}
-use Rattle.pdb_symbol_file_laws.specs.RecordReader.{FoundFunction, function_at}
+use Rattle.pdb_symbol_file_laws.specs.RecordReader.{FunctionMatch, function_at}
 use Rattle.pdb_symbol_file_laws.specs.SymbolFileRecords.{function_read}
 use Rattle.pdb_symbol_file_laws.specs.TextAnswers.{NoneOpen, begins_by}
 
@@ -25,7 +25,7 @@ and_false : (t : Bool) → (t && false) ≡ false
 and_false true = refl
 and_false false = refl
 
--- a function over an address stands behind where all of them begin
+-- a function over an address stands after where all of them begin
 begins_in : (address from to : ℕ) (functions : List FunctionRecords) (records : FunctionRecords)
     → StandBetween from to functions → function_over address functions ≡ Some records → from ≤ address
 begins_in address from to [] records order found = absurd (cc found)
@@ -73,7 +73,7 @@ function_found address from to (first ∷ functions) records order found =
     ∙ by (is_over address first) refl found
     (λ e. function_found address (first.last + 1) to functions records order.1.1 e)
   where
-    others : Option FoundFunction
+    others : Option FunctionMatch
     others = function_at address (flat_map function_read functions)
 
     by : (t : Bool) → is_over address first ≡ t
@@ -120,7 +120,7 @@ none_found address from to (first ∷ functions) order closed none =
     one_found first.found.end_rva address first functions order.1.0
     ∙ by (is_over address first) refl none (none_found address (first.last + 1) to functions order.1.1 closed.1)
   where
-    others : Option FoundFunction
+    others : Option FunctionMatch
     others = function_at address (flat_map function_read functions)
 
     by : (t : Bool) → is_over address first ≡ t → (if t then Some first else function_over address functions) ≡ None

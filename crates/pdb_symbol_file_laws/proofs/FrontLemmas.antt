@@ -2,7 +2,7 @@
 use Rattle.std.proofs.Common.{◌≡◌, ◌≢◌, ◌∙◌, ℕ, ◌==◌, Bool, true, false, List, [], ◌∷◌, ◌++◌, codes, refl, sym}
 use Rattle.std.proofs.Common.{ap, subst, ne_eqb, map, All, append_assoc, append-nil, inl, inr, ◌⊎◌, if◌then◌else◌}
 use Rattle.std.specs.List.{AllByRecursion}
-use Rattle.pdb_breakpad.specs.ModuleRecords.{IsModuleLine, with_breaks}
+use Rattle.pdb_breakpad.specs.ModuleRecord.{IsModuleLine, with_breaks}
 use Rattle.pdb_symbol_file_laws.specs.SymbolTextReader.{OtherLine, in_front_of, lines, number_and_more}
 use Rattle.pdb_symbol_file_laws.specs.SymbolTextReader.{read_line, read_text}
 use Rattle.pdb_symbol_file_laws.proofs.LineLemmas.{HasNone, IsLine, IsReadAs, both_read, line_end, line_reads}
@@ -73,7 +73,7 @@ in_front_apart b all more has =
     let others : List (List ℕ) = has.1.0 in
     ap (λ some. in_front_of b (some ++ more)) has.1.1 ∙ sym (ap (λ some. in_front_of b some ++ more) has.1.1)
 
--- the lines of a text that goes on behind a line break are those of its parts
+-- the lines of a text that goes on after a line break are those of its parts
 lines_apart : (front rest : List ℕ) → lines ((front ++ codes "\n") ++ rest) ≡ lines (front ++ codes "\n") ++ lines rest
 lines_apart [] rest = refl
 lines_apart (b ∷ front) rest = by (b == 10) (lines_apart front rest)
@@ -93,7 +93,7 @@ map_both : (xs ys : List (List ℕ)) → map read_line (xs ++ ys) ≡ map read_l
 map_both [] ys = refl
 map_both (x ∷ xs) ys = ap (λ said. read_line x ∷ said) (map_both xs ys)
 
--- a text that goes on behind a line break says what its parts do
+-- a text that goes on after a line break says what its parts do
 pub parts_read : (front rest : List ℕ)
     → read_text ((front ++ codes "\n") ++ rest) ≡ read_text (front ++ codes "\n") ++ read_text rest
 unfolding read_text

@@ -3,11 +3,11 @@ use Rattle.std.proofs.Common.{◌≡◌, ◌∙◌, ℕ, ◌+◌, ◌≤◌, Boo
 use Rattle.std.proofs.Common.{refl, ap, arith, map, flat_map, Option, Some, None, if◌then◌else◌}
 use Rattle.std.proofs.Common.{ltb-true, ltb-false, lt-ltb, le-ltb}
 use Rattle.std.specs.List.{AllByRecursion}
-use Rattle.pdb_breakpad.specs.RecordTypes.{FunctionRecords, InlineRecord, Place, Span}
+use Rattle.pdb_breakpad.specs.RecordTypes.{FunctionRecords, InlineRecord, SourceLocation, Span}
 use Rattle.pdb_breakpad.specs.FunctionTexts.{inline_before, inline_records_from, size_between}
 use Rattle.pdb_breakpad.specs.ShownFrames.{own_name}
 use Rattle.pdb_tables.specs.InOrder.{in_order}
-use Rattle.pdb_symbol_file_laws.specs.RecordReader.{FoundFunction, function_at, is_before_next, own_records, reaches}
+use Rattle.pdb_symbol_file_laws.specs.RecordReader.{FunctionMatch, function_at, is_before_next, own_records, reaches}
 use Rattle.pdb_symbol_file_laws.specs.SymbolFileRecords.{function_read, head_read, inline_read, line_read, on_one_line}
 use Rattle.pdb_symbol_file_laws.specs.SymbolTextReader.{SymbolLine, Func, Public}
 
@@ -25,7 +25,7 @@ passed address (Func start size name ∷ parts) lines all = absurd all.0
 passed address (Public start name ∷ parts) lines all = absurd all.0
 passed address (line ∷ parts) lines all = passed address parts lines all.1
 
--- so the next function behind them is the next
+-- so the next function after them is the next
 next_behind : (address : ℕ) (parts lines : List SymbolLine) → AllByRecursion IsPart parts
     → is_before_next address (parts ++ lines) ≡ is_before_next address lines
 next_behind address [] lines all = refl
@@ -52,7 +52,7 @@ inlines_are_parts : (inlines : List InlineRecord) → AllByRecursion IsPart (map
 inlines_are_parts [] = tt
 inlines_are_parts (inlined ∷ inlines) = (tt, inlines_are_parts inlines)
 
-lines_are_parts : (spans : List (Span Place)) → AllByRecursion IsPart (map line_read spans)
+lines_are_parts : (spans : List (Span SourceLocation)) → AllByRecursion IsPart (map line_read spans)
 lines_are_parts [] = tt
 lines_are_parts (span ∷ spans) = (tt, lines_are_parts spans)
 
@@ -96,7 +96,7 @@ next_is address (records ∷ functions) = by records.found.end_rva
     by (Some e) = refl
     by None = refl
 
--- an address is behind a last one exactly where it isn't below the next
+-- an address is after a last one exactly where it isn't below the next
 below_next : (start last address : ℕ) → start ≤ last
     → nat_lt address (start + size_between start last) ≡ not (nat_lt last address)
 below_next start last address order = by (nat_lt last address) refl
@@ -112,11 +112,11 @@ reaches_over start last address order =
     ap (λ t. not (nat_lt address start) && t) (below_next start last address order)
 
 -- a function as a reader finds it
-abbrev pub found_of : FunctionRecords → FoundFunction
+abbrev pub found_of : FunctionRecords → FunctionMatch
 found_of records =
     record { name = on_one_line (own_name records.found.frames); records = parts_of records }
 
--- what a reader finds behind a function
+-- what a reader finds after a function
 abbrev pub behind : FunctionRecords → List FunctionRecords → List SymbolLine
 behind records functions = parts_of records ++ flat_map function_read functions
 
@@ -132,7 +132,7 @@ takes (Some end) address records functions =
     not (nat_lt address records.start) && not (nat_lt records.last address)
 takes None address records functions = not (nat_lt address records.start) && lies_before address functions
 
--- what a reader finds of a function and those behind it
+-- what a reader finds of a function and those after it
 pub one_found : (end : Option ℕ) (address : ℕ) (records : FunctionRecords) (functions : List FunctionRecords)
     → records.start ≤ records.last
     → function_at address (head_read end records.start records.last (on_one_line (own_name records.found.frames))

@@ -5,11 +5,11 @@ use Rattle.std.specs.List.{All}
 use Rattle.std.proofs.lemmas.List.Elements.{All-cons, All-nil}
 use Rattle.pdb_frames.specs.Frame.{FramesInfo}
 use Rattle.pdb_tables.specs.declared.segment.Segment.{Segment}
-use Rattle.pdb_breakpad.specs.declared.module_records.ModuleIdentity.{ModuleIdentity}
-use Rattle.pdb_breakpad.specs.declared.module_records.ProgramIdentity.{ProgramIdentity}
+use Rattle.pdb_breakpad.specs.declared.module_record.ModuleIdentity.{ModuleIdentity}
+use Rattle.pdb_breakpad.specs.declared.module_record.ProgramIdentity.{ProgramIdentity}
 use Rattle.pdb_breakpad.specs.FunctionTexts.{line_text}
-use Rattle.pdb_breakpad.specs.ModuleRecords.{IdentityTexts, IsModuleLine, module_line, module_lines}
-use Rattle.pdb_breakpad.specs.ModuleRecords.{program_line, program_lines}
+use Rattle.pdb_breakpad.specs.ModuleRecord.{IdentityTexts, IsModuleLine, module_line, module_lines}
+use Rattle.pdb_breakpad.specs.ModuleRecord.{program_line, program_lines}
 use Rattle.pdb_breakpad.specs.SymbolFile.{WritesSymbolFile, symbol_file_text}
 use Rattle.pdb_symbol_file_laws.specs.TextAnswers.{AppendsAnswers, TextShows}
 use Rattle.pdb_symbol_file_laws.proofs.AnswerLemmas.{text_shows}

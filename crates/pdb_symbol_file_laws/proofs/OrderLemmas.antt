@@ -21,7 +21,7 @@ pub in_order_all : {T : Type 0} (P : T → Type 0) (before : T → T → Bool) (
 in_order_all P before [] all = tt
 in_order_all P before (x ∷ xs) all = put_all P before x (in_order before xs) all.0 (in_order_all P before xs all.1)
 
--- no element that passes a test stands behind one that passes it and belongs behind it
+-- no element that passes a test stands after one that passes it and belongs after it
 abbrev pub Keeps : {T : Type 0} → (T → Bool) → (T → T → Bool) → List T → Type 0
 Keeps P before [] = Unit {0}
 Keeps P before (x ∷ xs) =

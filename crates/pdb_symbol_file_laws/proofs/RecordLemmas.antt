@@ -2,7 +2,7 @@
 use Rattle.std.proofs.Common.{◌≡◌, ◌∙◌, ℕ, ◌<◌, ◌^◌, Bool, false, List, [], ◌∷◌, ◌++◌, codes, refl}
 use Rattle.std.proofs.Common.{sym, ap, subst, append-nil, arith, decimal, Option, Some, None, if◌then◌else◌}
 use Rattle.std.proofs.Common.{append_assoc}
-use Rattle.pdb_breakpad.specs.RecordTypes.{InlineRecord, Place, Span}
+use Rattle.pdb_breakpad.specs.RecordTypes.{InlineRecord, SourceLocation, Span}
 use Rattle.pdb_breakpad.specs.FunctionTexts.{function_head, hexadecimal, inline_line, line_line, name_line}
 use Rattle.pdb_breakpad.specs.FunctionTexts.{size_between}
 use Rattle.pdb_breakpad.specs.NameRecords.{name_record}
@@ -194,7 +194,7 @@ file_line n small =
     (with_word (decimal n) (decimal_has_none n small) line_end)
 
 -- the record of a line is read as it
-pub code_line_reads : (span : Span Place) → FitsSpan FitsPlace span → IsReadAs (line_line span) (line_read span ∷ [])
+pub code_line_reads : (span : Span SourceLocation) → FitsSpan FitsPlace span → IsReadAs (line_line span) (line_read span ∷ [])
 unfolding line_line
 code_line_reads span fits =
     line_reads

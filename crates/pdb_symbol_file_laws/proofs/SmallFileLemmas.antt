@@ -14,7 +14,7 @@ pub small_inside : shown_by_text small_file 0x1009 ≡ Some small_frames
 unfolding shown_by_records read_text read_line number_and_more number_at_end
 small_inside = refl
 
--- one behind the function has none
+-- one after the function has none
 pub small_behind : shown_by_text small_file 0x102a ≡ None
 unfolding shown_by_records read_text read_line number_and_more number_at_end
 small_behind = refl

@@ -18,7 +18,7 @@ first_is (b ∷ word) rest none =
     ap (λ t. if t then [] else b ∷ first_word (word ++ (32 ∷ rest))) none.0
     ∙ ap (λ w. b ∷ w) (first_is word rest none.1)
 
--- the rest of a line is what stands behind the space
+-- the rest of a line is what stands after the space
 pub rest_is : (word rest : List ℕ) → HasNone 32 word → rest_of (word ++ (32 ∷ rest)) ≡ rest
 rest_is [] rest none = refl
 rest_is (b ∷ word) rest none =
@@ -65,7 +65,7 @@ no_beginning base ds rest word all small other =
     ap (λ w. bytes_eq w word) (first_is ds rest (none_in_digits 32 base ds all (omega (arith, small))))
     ∙ no_word base ds word all other
 
--- digits with a space and more behind them are read as their number and the rest
+-- digits with a space and more after them are read as their number and the rest
 goes_on : (base n : ℕ) (ds rest : List ℕ) (says : ℕ → List ℕ → SymbolLine) → base ≤ 16 → IsNumeral base ds
     → digits_value base ds ≡ n → number_and_more base (ds ++ (32 ∷ rest)) says ≡ says n rest
 unfolding number_and_more
@@ -93,13 +93,13 @@ hexadecimal_is n small = digits_is_IsNumeral 16 false (omega arith) (omega arith
 pub decimal_is : (n : ℕ) → n < 2 ^ 64 → IsNumeral 10 (decimal n) × (digits_value 10 (decimal n) ≡ n)
 decimal_is n small = digits_is_IsNumeral 10 false (omega arith) (omega arith) n (omega arith)
 
--- a hexadecimal number is read, and more behind it
+-- a hexadecimal number is read, and more after it
 pub hexadecimal_goes_on : (n : ℕ) (rest : List ℕ) (says : ℕ → List ℕ → SymbolLine) → n < 2 ^ 64
     → number_and_more 16 (digits 16 false n ++ (32 ∷ rest)) says ≡ says n rest
 hexadecimal_goes_on n rest says small =
     let is = hexadecimal_is n small in goes_on 16 n (digits 16 false n) rest says (omega arith) is.0 is.1
 
--- a decimal number is read, and more behind it
+-- a decimal number is read, and more after it
 pub decimal_goes_on : (n : ℕ) (rest : List ℕ) (says : ℕ → List ℕ → SymbolLine) → n < 2 ^ 64
     → number_and_more 10 (decimal n ++ (32 ∷ rest)) says ≡ says n rest
 decimal_goes_on n rest says small =

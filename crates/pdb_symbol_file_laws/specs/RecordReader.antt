@@ -22,7 +22,7 @@ origin_named number [] = []
 origin_named number (InlineOrigin n name ∷ lines) = if n == number then name else origin_named number lines
 origin_named number (line ∷ lines) = origin_named number lines
 
--- the records that belong to a function: those behind its own, up to the next function
+-- the records that belong to a function: those after its own, up to the next function
 abbrev pub own_records : List SymbolLine → List SymbolLine
 own_records [] = []
 own_records (Func start size name ∷ lines) = []
@@ -37,12 +37,12 @@ is_before_next address (Public start name ∷ lines) = nat_lt address start
 is_before_next address (line ∷ lines) = is_before_next address lines
 
 -- a function over an address: its name, and the records that belong to it
-pub record FoundFunction : Type 0 where
+pub record FunctionMatch : Type 0 where
   pub name : List ℕ
   pub records : List SymbolLine
 
 -- the first function over an address; one without a size reaches up to the next function
-abbrev pub function_at : ℕ → List SymbolLine → Option FoundFunction
+abbrev pub function_at : ℕ → List SymbolLine → Option FunctionMatch
 function_at address [] = None
 function_at address (Func start size name ∷ lines) =
     if reaches start size address then Some (record { name = name; records = own_records lines })
@@ -85,7 +85,7 @@ place_read all address (CodeLine start size line file ∷ lines) =
 place_read all address (line ∷ lines) = place_read all address lines
 
 -- the frames of a function at an address, from outside to inside; each inlined call has a record of its own
-abbrev pub frames_read : List SymbolLine → ℕ → FoundFunction → List ShownFrame
+abbrev pub frames_read : List SymbolLine → ℕ → FunctionMatch → List ShownFrame
 frames_read all address found =
     stack_read found.name (calls_read all address found.records (length found.records) 0)
     (place_read all address found.records)

@@ -2,7 +2,7 @@
 use Rattle.std.specs.Prelude.{ℕ, ◌+◌, ◌==◌, ◌||◌, List, [], ◌∷◌, ◌++◌, map, Option, Some, None, if◌then◌else◌}
 use Rattle.std.specs.Str.{chars, encode_utf8_all}
 use Rattle.pdb_tables.specs.InOrder.{in_order}
-use Rattle.pdb_breakpad.specs.RecordTypes.{FunctionRecords, InlineRecord, Numbers, Place, Span}
+use Rattle.pdb_breakpad.specs.RecordTypes.{FunctionRecords, InlineRecord, Numbers, SourceLocation, Span}
 use Rattle.pdb_breakpad.specs.FunctionTexts.{inline_before, inline_records_from, size_between}
 use Rattle.pdb_breakpad.specs.ShownFrames.{own_name}
 use Rattle.pdb_symbol_file_laws.specs.SymbolTextReader.{SymbolLine, File, InlineOrigin, Func, Public, Inline, CodeLine}
@@ -36,7 +36,7 @@ inline_read inlined =
     inlined.span.start (size_between inlined.span.start inlined.span.last)
 
 -- the record of a line
-abbrev pub line_read : Span Place → SymbolLine
+abbrev pub line_read : Span SourceLocation → SymbolLine
 line_read span = CodeLine span.start (size_between span.start span.last) span.content.line span.content.file
 
 -- the records of a function: its own, those of its inlined calls by where they begin, and those of its lines

@@ -37,7 +37,7 @@ abbrev pub first_word : List ℕ → List ℕ
 first_word [] = []
 first_word (byte ∷ bytes) = if byte == 32 then [] else byte ∷ first_word bytes
 
--- the rest of a line: what stands behind its first space
+-- the rest of a line: what stands after its first space
 abbrev pub rest_of : List ℕ → List ℕ
 rest_of [] = []
 rest_of (byte ∷ bytes) = if byte == 32 then bytes else rest_of bytes
@@ -52,7 +52,7 @@ abbrev pub is_number : ℕ → List ℕ → Bool
 is_number base [] = false
 is_number base (byte ∷ bytes) = are_digits base (byte ∷ bytes)
 
--- a line that goes on with a number, a space and more: what it says by that number and by what stands behind the space.
+-- a line that goes on with a number, a space and more: what it says by that number and by what stands after the space.
 -- It is none of the records where its next word is no number
 unfoldable pub number_and_more : ℕ → List ℕ → (ℕ → List ℕ → SymbolLine) → SymbolLine
 number_and_more base text says =
@@ -62,28 +62,28 @@ number_and_more base text says =
 unfoldable pub number_at_end : ℕ → List ℕ → (ℕ → SymbolLine) → SymbolLine
 number_at_end base text says = if is_number base text then says (digits_value base text) else OtherLine
 
--- `NUMBER NAME` behind `FILE`
+-- `NUMBER NAME` after `FILE`
 abbrev pub read_file : List ℕ → SymbolLine
 read_file text = number_and_more 10 text λ number name. File number name
 
--- `NUMBER NAME` behind `INLINE_ORIGIN`
+-- `NUMBER NAME` after `INLINE_ORIGIN`
 abbrev pub read_origin : List ℕ → SymbolLine
 read_origin text = number_and_more 10 text λ number name. InlineOrigin number name
 
--- `START SIZE PARAMETERS NAME` behind `FUNC`, with the numbers in hexadecimal digits
+-- `START SIZE PARAMETERS NAME` after `FUNC`, with the numbers in hexadecimal digits
 abbrev pub read_func : List ℕ → SymbolLine
 read_func text =
     number_and_more 16 text λ start text.
     number_and_more 16 text λ size text.
     number_and_more 16 text λ parameters name. Func start size name
 
--- `START PARAMETERS NAME` behind `PUBLIC`, with the numbers in hexadecimal digits
+-- `START PARAMETERS NAME` after `PUBLIC`, with the numbers in hexadecimal digits
 abbrev pub read_public : List ℕ → SymbolLine
 read_public text =
     number_and_more 16 text λ start text.
     number_and_more 16 text λ parameters name. Public start name
 
--- `LEVEL LINE FILE ORIGIN START SIZE` behind `INLINE`, with the last two in hexadecimal digits
+-- `LEVEL LINE FILE ORIGIN START SIZE` after `INLINE`, with the last two in hexadecimal digits
 abbrev pub read_inline : List ℕ → SymbolLine
 read_inline text =
     number_and_more 10 text λ level text.

@@ -4,7 +4,7 @@ use Rattle.std.specs.Prelude.{Option, Some, None, option_map}
 use Rattle.std.specs.Io.KnownBytes.{Appends}
 use Rattle.pdb_frames.specs.Frame.{FramesInfo}
 use Rattle.pdb_breakpad.specs.RecordTypes.{FunctionRecords}
-use Rattle.pdb_breakpad.specs.Functions.{turned}
+use Rattle.pdb_breakpad.specs.FunctionWalk.{turned}
 use Rattle.pdb_breakpad.specs.ShownFrames.{ShownFrame, ShownPlace, answer_shown}
 use Rattle.pdb_symbol_file_laws.specs.RecordReader.{shown_by_text}
 use Rattle.pdb_symbol_file_laws.specs.SymbolFileRecords.{on_one_line}

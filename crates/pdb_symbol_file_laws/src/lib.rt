@@ -4,6 +4,6 @@
 //! here does nothing. Its contract is a law, and the check proves it.
 #![tactic(auto)]
 
-pub mod answers;
+pub mod shown_answers;
 pub mod small_file;
-pub mod texts;
+pub mod symbol_file_texts;

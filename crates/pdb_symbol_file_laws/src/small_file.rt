@@ -6,7 +6,7 @@ ghost use Rattle.pdb_symbol_file_laws.specs.SmallFile.{small_file, small_frames,
 ghost use Rattle.pdb_symbol_file_laws.specs.SymbolTextReader.{read_text};
 
 /// The lines of a small symbol file are read one by one. An address in its inlined body is shown with both frames, and
-/// one behind its function with none.
+/// one after its function with none.
 #[tactic(auto, using(crate::proofs::SmallFileLemmas::small))]
 pub fn small_file_says()
     ensures records { read_text small_file ≡ small_records }

@@ -8,7 +8,7 @@ use Rattle.pdb_symbolication.specs.JsonObjects.{later}
 use Rattle.pdb_symbolication.specs.RequestAnswers.{error_text, frame_object, job_answer, text_at}
 use Rattle.pdb_symbolication.specs.declared.findings.Finding.TheVariants.{Found, NotFound, NotAsked}
 use Rattle.pdb_symbolication.specs.declared.frame_texts.FrameTexts.{FrameTexts}
-use Rattle.pdb_symbolication.specs.declared.frame_texts.Place.{Place}
+use Rattle.pdb_symbolication.specs.declared.frame_texts.SymbolizedFrame.{SymbolizedFrame}
 use Rattle.pdb_symbolication.specs.declared.requests.FrameModule.TheVariants.{Unknown, At}
 use Rattle.pdb_symbolication.specs.declared.requests.MemoryMapEntry.{MemoryMapEntry}
 use Rattle.pdb_symbolication.specs.declared.requests.Stack.{Stack}
@@ -18,7 +18,7 @@ use Rattle.pdb_symbolication.specs.declared.wanted_modules.WantedModule.{WantedM
 abbrev known : List ℕ → Option (Bor (List ℕ))
 known text = Some (record { ref_ptr = (0, 0); now = text })
 
-abbrev place : List ℕ → List ℕ → ℕ → Place
+abbrev place : List ℕ → List ℕ → ℕ → SymbolizedFrame
 place function file line = record { function = known function; file = known file; line = Some line }
 
 -- a function with two calls that are inlined into it, the innermost first

@@ -7,7 +7,7 @@ use Rattle.pdb_symbolication.specs.FrameTexts.{function_members, inlined_call, i
 use Rattle.pdb_symbolication.specs.FrameTexts.{location_members, place_members, text_member}
 use Rattle.pdb_symbolication.specs.JsonObjects.{array, hexadecimal, later, member, separated}
 use Rattle.pdb_symbolication.specs.JsonTexts.{quoted}
-use Rattle.pdb_symbolication.specs.declared.frame_texts.Place.{Place}
+use Rattle.pdb_symbolication.specs.declared.frame_texts.SymbolizedFrame.{SymbolizedFrame}
 use Rattle.pdb_symbolication.proofs.JsonLemmas.{later-append, later_one}
 
 -- a function's name, and then its offset
@@ -21,17 +21,17 @@ function_text known within =
     ∙ ap (λ (text : List ℕ). later (name ∷ []) ++ text) (later_one offset))
 
 -- calls, between the brackets of their member
-pub inlines_text : (calls : List Place) → 0 < length calls
+pub inlines_text : (calls : List SymbolizedFrame) → 0 < length calls
     → codes ",\"inlines\":[" ++ (separated (map inlined_call calls) ++ codes "]") ≡ later (inlines_member calls)
 inlines_text [] some = absurd (omega arith)
 inlines_text (call ∷ calls) some = sym (later_one (member (codes "inlines") (array (map inlined_call (call ∷ calls)))))
 
-slice_get-append : (calls : List Place) (own : Place) → slice_get (calls ++ (own ∷ [])) (length calls) ≡ Some own
+slice_get-append : (calls : List SymbolizedFrame) (own : SymbolizedFrame) → slice_get (calls ++ (own ∷ [])) (length calls) ≡ Some own
 slice_get-append [] own = refl
 slice_get-append (call ∷ calls) own = slice_get-append calls own
 
 -- the members of places, of which the last and those before it are known
-pub members_of_last : (within : ℕ) (places : List Place) (own : Place) (calls : List Place)
+pub members_of_last : (within : ℕ) (places : List SymbolizedFrame) (own : SymbolizedFrame) (calls : List SymbolizedFrame)
     → IsLastAndRest places own calls → members_within within own calls ≡ place_members within places
 members_of_last within places own calls last =
     let whole : places ≡ calls ++ (own ∷ []) = last.0 in
@@ -41,7 +41,7 @@ members_of_last within places own calls last =
     rw (count, whole, there, before)
 
 -- members in three parts
-pub members_text : (within : ℕ) (own : Place) (calls : List Place)
+pub members_text : (within : ℕ) (own : SymbolizedFrame) (calls : List SymbolizedFrame)
     → later (function_members own.function within) ++ (later (location_members own) ++ later (inlines_member calls))
     ≡ later (members_within within own calls)
 members_text within own calls =

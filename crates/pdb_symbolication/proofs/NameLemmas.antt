@@ -1,47 +1,63 @@
--- Names of modules, which keep their positions.
+-- Identities of modules, which keep their positions.
 use Rattle.std.proofs.Common.{◌≡◌, ◌∙◌, refl, ap, sym, subst, ℕ, zero, suc, List, [], ◌∷◌, ◌++◌}
-use Rattle.std.proofs.Common.{length, Some, ◌<◌, ◌≢◌, Bool, true, false, string_bytes, arith}
-use Rattle.std.proofs.Common.{Option, Result, Ok, Err, ◌||◌}
+use Rattle.std.proofs.Common.{length, Some, ◌<◌, ◌≢◌, Bool, true, false, arith}
+use Rattle.std.proofs.Common.{None, Option, Result, Ok, Err, ◌||◌}
+use Rattle.std.proofs.lemmas.Option.{slice_get_within}
 use Rattle.std.proofs.Math.ListN.{set}
 use Rattle.std.proofs.lemmas.Bool.Decides.{nat_tests}
 use Rattle.std.specs.Prelude.{◌==◌, OnOk, unwrap_or}
 use Rattle.std.specs.List.{slice_get}
-use Rattle.pdb_symbolication.specs.WantedModules.{KeepsNames, LeadToEntries, LeadsTo, is_asked}
+use Rattle.pdb_symbolication.specs.WantedModules.{Identity, KeepsIdentities, LeadToEntries, LeadsTo, identity_of}
+use Rattle.pdb_symbolication.specs.WantedModules.{is_asked, named_identity}
 use Rattle.pdb_symbolication.specs.Findings.{search_of}
 use Rattle.pdb_symbolication.specs.declared.requests.MemoryMapEntry.{MemoryMapEntry}
+use Rattle.pdb_symbolication.specs.declared.wanted_modules.NamedModule.{NamedModule}
 use Rattle.pdb_symbolication.specs.declared.wanted_modules.Search.{Search}
 use Rattle.pdb_symbolication.specs.declared.wanted_modules.Search.TheVariants.{NotAsked, Impossible, Module}
 
--- a name that was added is the last
-last : (names : List (List ℕ)) (name : List ℕ) → slice_get (names ++ name ∷ []) (length names) ≡ Some name
-last [] name = refl
-last (first ∷ names) name = last names name
+-- an identity that was added is the last
+last : (identities : List Identity) (one : Identity) → slice_get (identities ++ one ∷ []) (length identities) ≡ Some one
+last [] one = refl
+last (first ∷ identities) one = last identities one
 
-pub last_of : (names new : List (List ℕ)) (name : List ℕ) (position : ℕ) → new ≡ names ++ name ∷ []
-    → position ≡ length names → slice_get new position ≡ Some name
-last_of names new name position added at = rw (added, at) (last names name)
+pub last_of : (identities new : List Identity) (one : Identity) (position : ℕ) → new ≡ identities ++ one ∷ []
+    → position ≡ length identities → slice_get new position ≡ Some one
+last_of identities new one position added at = rw (added, at) (last identities one)
 
--- names that were there keep their positions
-keeps : (names more : List (List ℕ)) → KeepsNames names (names ++ more)
-keeps [] more position name none = absurd (cc)
-keeps (first ∷ names) more zero name same = same
-keeps (first ∷ names) more (suc position) name same = keeps names more position name same
+-- identities that were there keep their positions
+keeps : (identities more : List Identity) → KeepsIdentities identities (identities ++ more)
+keeps [] more position one none = absurd (cc)
+keeps (first ∷ identities) more zero one same = same
+keeps (first ∷ identities) more (suc position) one same = keeps identities more position one same
 
-pub keeps_added : (names new more : List (List ℕ)) → new ≡ names ++ more → KeepsNames names new
-keeps_added names new more added = subst (λ (all : List (List ℕ)). KeepsNames names all) (sym added) (keeps names more)
+pub keeps_added : (identities new more : List Identity) → new ≡ identities ++ more → KeepsIdentities identities new
+keeps_added identities new more added =
+    subst (λ (all : List Identity). KeepsIdentities identities all) (sym added) (keeps identities more)
 
 -- a search leads where it did
-pub leads_still : (old new : List (List ℕ)) (name : List ℕ) (search : Search) → KeepsNames old new
-    → LeadsTo old name search → LeadsTo new name search
-leads_still old new name NotAsked kept led = tt
-leads_still old new name Impossible kept led = tt
-leads_still old new name (Module position) kept led = kept position name led
+pub leads_still : (old new : List Identity) (wanted : Option Identity) (search : Search) → KeepsIdentities old new
+    → LeadsTo old wanted search → LeadsTo new wanted search
+leads_still old new wanted NotAsked kept led = tt
+leads_still old new wanted Impossible kept led = led
+leads_still old new None (Module position) kept led = let bad : false ≡ true = led.0 in absurd cc
+leads_still old new (Some one) (Module position) kept led = (led.0, kept position one led.1)
+
+-- a search that leads to a module leads to one that is there
+pub leads_within : (identities : List Identity) (wanted : Option Identity) (position : ℕ)
+    → LeadsTo identities wanted (Module position) → position < length identities
+leads_within identities None position led = let bad : false ≡ true = led.0 in absurd cc
+leads_within identities (Some one) position led = slice_get_within identities position one led.1
+
+-- modules of one name and one debug id have one identity
+pub same_identity : (one other : NamedModule) → one.name ≡ other.name → one.debug_id ≡ other.debug_id
+    → named_identity one ≡ named_identity other
+same_identity one other name id = rw (name, id) refl
 
 -- searches lead where they did
-pub lead_still : (old new : List (List ℕ)) (entries : List MemoryMapEntry) (searches : List Search) → KeepsNames old new
-    → LeadToEntries old entries searches → LeadToEntries new entries searches
+pub lead_still : (old new : List Identity) (entries : List MemoryMapEntry) (searches : List Search)
+    → KeepsIdentities old new → LeadToEntries old entries searches → LeadToEntries new entries searches
 lead_still old new entries searches kept led index entry is =
-    leads_still old new (string_bytes entry.name) (search_of searches index) kept (led index entry is)
+    leads_still old new (identity_of entry) (search_of searches index) kept (led index entry is)
 
 some_same : {one other : MemoryMapEntry} → Some one ≡ Some other → one ≡ other
 some_same {one} {other} same = cc
@@ -102,28 +118,28 @@ pub always : {E : Type 0} (result : Result (Unit {0}) E) {P : Type 0} → P → 
 always (Ok done) fact = fact
 always (Err fault) fact = tt
 
-by_place : (names : List (List ℕ)) (entries : List MemoryMapEntry) (searches : List Search) (index other : ℕ)
+by_place : (identities : List Identity) (entries : List MemoryMapEntry) (searches : List Search) (index other : ℕ)
     (entry one : MemoryMapEntry) (search : Search) (same : Bool) → (other == index) ≡ same → index < length searches
     → slice_get entries index ≡ Some entry → slice_get entries other ≡ Some one
-    → LeadsTo names (string_bytes entry.name) search → LeadsTo names (string_bytes one.name) (search_of searches other)
-    → LeadsTo names (string_bytes one.name) (search_of (set searches index search) other)
-by_place names entries searches index other entry one search true same within here there new old =
+    → LeadsTo identities (identity_of entry) search → LeadsTo identities (identity_of one) (search_of searches other)
+    → LeadsTo identities (identity_of one) (search_of (set searches index search) other)
+by_place identities entries searches index other entry one search true same within here there new old =
     let at : other ≡ index = grind (arith, nat_tests) in
     let which : entry ≡ one = some_same (sym here ∙ (ap (slice_get entries) (sym at) ∙ there)) in
-    subst (λ (place : ℕ). LeadsTo names (string_bytes one.name) (search_of (set searches index search) place)) (sym at)
-    (subst (λ (found : Search). LeadsTo names (string_bytes one.name) found)
+    subst (λ (place : ℕ). LeadsTo identities (identity_of one) (search_of (set searches index search) place)) (sym at)
+    (subst (λ (found : Search). LeadsTo identities (identity_of one) found)
     (sym (set_same searches index search within))
-    (subst (λ (e : MemoryMapEntry). LeadsTo names (string_bytes e.name) search) which new))
-by_place names entries searches index other entry one search false same within here there new old =
+    (subst (λ (e : MemoryMapEntry). LeadsTo identities (identity_of e) search) which new))
+by_place identities entries searches index other entry one search false same within here there new old =
     let differs : other ≢ index = grind (arith, nat_tests) in
-    subst (λ (found : Search). LeadsTo names (string_bytes one.name) found)
+    subst (λ (found : Search). LeadsTo identities (identity_of one) found)
     (sym (set_other searches index other search differs)) old
 
 -- a search that leads to its entry is written
-pub lead_set : (names : List (List ℕ)) (entries : List MemoryMapEntry) (searches : List Search) (index : ℕ)
+pub lead_set : (identities : List Identity) (entries : List MemoryMapEntry) (searches : List Search) (index : ℕ)
     (entry : MemoryMapEntry) (search : Search) → index < length searches → slice_get entries index ≡ Some entry
-    → LeadsTo names (string_bytes entry.name) search → LeadToEntries names entries searches
-    → LeadToEntries names entries (set searches index search)
-lead_set names entries searches index entry search within here new led other one is =
-    by_place names entries searches index other entry one search (other == index) refl within here is new
+    → LeadsTo identities (identity_of entry) search → LeadToEntries identities entries searches
+    → LeadToEntries identities entries (set searches index search)
+lead_set identities entries searches index entry search within here new led other one is =
+    by_place identities entries searches index other entry one search (other == index) refl within here is new
     (led other one is)

@@ -6,9 +6,9 @@ use Rattle.std.specs.Fmt.{decimal}
 use Rattle.std.specs.Option.{option_map_or}
 use Rattle.pdb_symbolication.specs.JsonObjects.{array, hexadecimal, later, member, object}
 use Rattle.pdb_symbolication.specs.JsonTexts.{quoted}
-use Rattle.pdb_symbolication.specs.declared.frame_texts.FoundFunction.{FoundFunction}
+use Rattle.pdb_symbolication.specs.declared.frame_texts.SymbolizedFunction.{SymbolizedFunction}
 use Rattle.pdb_symbolication.specs.declared.frame_texts.FrameTexts.{FrameTexts}
-use Rattle.pdb_symbolication.specs.declared.frame_texts.Place.{Place}
+use Rattle.pdb_symbolication.specs.declared.frame_texts.SymbolizedFrame.{SymbolizedFrame}
 
 -- the member of this name whose value is a text, where that is known
 abbrev pub text_member : List ℕ → Option (Bor (List ℕ)) → List (List ℕ)
@@ -21,15 +21,15 @@ line_member None = []
 line_member (Some line) = member (codes "line") (decimal line) ∷ []
 
 -- the file and the line of a place, as far as they are known
-abbrev pub location_members : Place → List (List ℕ)
+abbrev pub location_members : SymbolizedFrame → List (List ℕ)
 location_members place = text_member (codes "file") place.file ++ line_member place.line
 
 -- an inlined call: its function, its file and its line, as far as they are known
-abbrev pub inlined_call : Place → List ℕ
+abbrev pub inlined_call : SymbolizedFrame → List ℕ
 inlined_call call = object (text_member (codes "function") call.function ++ location_members call)
 
 -- the calls that are inlined at an address, from inside to outside, where there are some
-abbrev pub inlines_member : List Place → List (List ℕ)
+abbrev pub inlines_member : List SymbolizedFrame → List (List ℕ)
 inlines_member [] = []
 inlines_member (call ∷ calls) = member (codes "inlines") (array (map inlined_call (call ∷ calls))) ∷ []
 
@@ -40,23 +40,23 @@ function_members (Some name) within =
     member (codes "function") (quoted name.now) ∷ (member (codes "function_offset") (hexadecimal within) ∷ [])
 
 -- a function so many bytes before the address, with its own file and line, and the calls that are inlined there
-abbrev pub members_within : ℕ → Place → List Place → List (List ℕ)
+abbrev pub members_within : ℕ → SymbolizedFrame → List SymbolizedFrame → List (List ℕ)
 members_within within own calls = function_members own.function within ++ (location_members own ++ inlines_member calls)
 
 -- what is known at so many bytes after a function's start, by its places from inside to outside: the last is the
 -- function's own, and those before it are inlined calls
-abbrev pub place_members : ℕ → List Place → List (List ℕ)
+abbrev pub place_members : ℕ → List SymbolizedFrame → List (List ℕ)
 place_members within places =
     option_map_or (λ own. members_within within own (take (length places - 1) places))
     (slice_get places (length places - 1)) []
 
 -- what is known at an offset, where a function was found there or none
-abbrev pub found_members : ℕ → Option FoundFunction → List (List ℕ)
+abbrev pub found_members : ℕ → Option SymbolizedFunction → List (List ℕ)
 found_members offset None = []
 found_members offset (Some found) = place_members (offset - found.start) found.places.items
 
 -- the text at an offset: the members of what was found there, which follow others
-abbrev pub frame_text : ℕ → Option FoundFunction → List ℕ
+abbrev pub frame_text : ℕ → Option SymbolizedFunction → List ℕ
 frame_text offset found = later (found_members offset found)
 
 -- the texts at offsets of a module, in the order in which they were added

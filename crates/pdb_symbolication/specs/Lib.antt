@@ -4,6 +4,7 @@ pub mod HarmlessNames
 pub mod JsonObjects
 pub mod JsonTexts
 pub mod RequestAnswers
+pub mod RequestValues
 pub mod Requests
 pub mod WantedModules
 pub mod Writes

@@ -13,7 +13,7 @@ use Rattle.pdb_symbolication.specs.declared.requests.FrameModule.{FrameModule}
 use Rattle.pdb_symbolication.specs.declared.requests.FrameModule.TheVariants.{Unknown, At}
 use Rattle.pdb_symbolication.specs.declared.requests.Job.{Job}
 use Rattle.pdb_symbolication.specs.declared.requests.MemoryMapEntry.{MemoryMapEntry}
-use Rattle.pdb_symbolication.specs.declared.requests.Request.{Request}
+use Rattle.pdb_symbolication.specs.declared.requests.SymbolicationRequest.{SymbolicationRequest}
 use Rattle.pdb_symbolication.specs.declared.requests.Stack.{Stack}
 use Rattle.pdb_symbolication.specs.declared.requests.StackFrame.{StackFrame}
 use Rattle.pdb_symbolication.specs.declared.wanted_modules.Search.{Search}
@@ -119,7 +119,7 @@ job_answers wanted found number (job ∷ jobs) =
     job_answer (searched_job wanted found number job) job.stacks.items ∷ job_answers wanted found (number + 1) jobs
 
 -- the answer to a request: a line with an object that has the answer to each job, in their order
-abbrev pub answer_text : Request → WantedModules → List (Option FrameTexts) → List ℕ
+abbrev pub answer_text : SymbolicationRequest → WantedModules → List (Option FrameTexts) → List ℕ
 answer_text request wanted found =
     object (member (codes "results") (array (job_answers wanted found 0 request.jobs.items)) ∷ []) ++ codes "\n"
 

@@ -1,17 +1,22 @@
 -- Which entries of a memory map are searched for, and at which offsets.
 use Rattle.std.specs.Prelude.{◌≡◌, ℕ, ◌<◌, Bool, true, false, List, slice_get, vec_len, Some, ◌==◌, length}
-use Rattle.std.specs.Prelude.{Contains, Option, None, [], map, string_bytes, unwrap_or, ◌^◌, ◌⊎◌}
+use Rattle.std.specs.Prelude.{Contains, IsSome, Option, None, [], map, option_map, string_bytes, unwrap_or, ◌^◌, ◌⊎◌}
+use Rattle.std.specs.Prelude.{◌++◌, codes, if◌then◌else◌}
 use Rattle.std.specs.List.{list_any}
+use Rattle.pdb_identity.specs.DebugIds.{compact_text, debug_id_of}
+use Rattle.pdb_identity.specs.declared.debug_id.DebugId.{DebugId}
 use Rattle.pdb_symbolication.specs.Findings.{search_of}
+use Rattle.pdb_symbolication.specs.HarmlessNames.{is_harmless}
 use Rattle.pdb_symbolication.specs.RequestAnswers.{job_searches}
 use Rattle.pdb_symbolication.specs.declared.named_modules.Collector.{Collector}
 use Rattle.pdb_symbolication.specs.declared.requests.FrameModule.{FrameModule}
 use Rattle.pdb_symbolication.specs.declared.requests.FrameModule.TheVariants.{Unknown, At}
 use Rattle.pdb_symbolication.specs.declared.requests.Job.{Job}
 use Rattle.pdb_symbolication.specs.declared.requests.MemoryMapEntry.{MemoryMapEntry}
-use Rattle.pdb_symbolication.specs.declared.requests.Request.{Request}
+use Rattle.pdb_symbolication.specs.declared.requests.SymbolicationRequest.{SymbolicationRequest}
 use Rattle.pdb_symbolication.specs.declared.requests.Stack.{Stack}
 use Rattle.pdb_symbolication.specs.declared.requests.StackFrame.{StackFrame}
+use Rattle.pdb_symbolication.specs.declared.wanted_modules.NamedModule.{NamedModule}
 use Rattle.pdb_symbolication.specs.declared.wanted_modules.Search.{Search}
 use Rattle.pdb_symbolication.specs.declared.wanted_modules.Search.TheVariants.{NotAsked, Impossible, Module}
 use Rattle.pdb_symbolication.specs.declared.wanted_modules.WantedModule.{WantedModule}
@@ -42,29 +47,48 @@ pub record AsksFor (job : Job) (searches : List Search) : Type 0 where
   pub asked : (index : ℕ) → index < vec_len job.memory_map
       → is_asked (search_of searches index) ≡ job_names index job
 
--- a search that leads to a module leads to one of this name
-abbrev pub LeadsTo : List (List ℕ) → List ℕ → Search → Type 0
-LeadsTo names name NotAsked = Unit {0}
-LeadsTo names name Impossible = Unit {0}
-LeadsTo names name (Module position) = slice_get names position ≡ Some name
+-- what a module is searched by: its name and its debug id
+abbrev pub Identity : Type 0
+Identity = List ℕ × DebugId
 
--- each search that leads to a module leads to one with the name of its entry of the memory map
-abbrev pub LeadToEntries : List (List ℕ) → List MemoryMapEntry → List Search → Type 0
-LeadToEntries names entries searches = (index : ℕ) (entry : MemoryMapEntry) → slice_get entries index ≡ Some entry
-    → LeadsTo names (string_bytes entry.name) (search_of searches index)
+-- the text by which a module is found again: its name, a slash and its debug id
+abbrev pub identity_text : Identity → List ℕ
+identity_text identity = identity.0 ++ (codes "/" ++ compact_text identity.1)
 
--- names keep their positions
-abbrev pub KeepsNames : List (List ℕ) → List (List ℕ) → Type 0
-KeepsNames old new =
-    (position : ℕ) (name : List ℕ) → slice_get old position ≡ Some name → slice_get new position ≡ Some name
+-- what an entry is searched by: nothing if its name isn't harmless, or if its debug id is none
+abbrev pub identity_of : MemoryMapEntry → Option Identity
+identity_of entry =
+    if is_harmless (string_bytes entry.name)
+    then option_map (λ id. (string_bytes entry.name, id)) (debug_id_of (string_bytes entry.debug_id)) else None
 
--- the names of modules
-abbrev pub names_of : List WantedModule → List (List ℕ)
-names_of modules = map (λ one. string_bytes one.name) modules
+-- a search is impossible only where there is nothing to search by. One that leads to a module leads to one of this
+-- identity
+abbrev pub LeadsTo : List Identity → Option Identity → Search → Type 0
+LeadsTo identities wanted NotAsked = Unit {0}
+LeadsTo identities wanted Impossible = wanted ≡ None
+LeadsTo identities wanted (Module position) = IsSome wanted × slice_get identities position ≡ wanted
 
--- the names of the modules that were collected
-abbrev pub names_in : Collector → List (List ℕ)
-names_in collector = map (λ one. string_bytes one.name) collector.modules.items
+-- each search leads to a module of its entry of the memory map, or is impossible there
+abbrev pub LeadToEntries : List Identity → List MemoryMapEntry → List Search → Type 0
+LeadToEntries identities entries searches = (index : ℕ) (entry : MemoryMapEntry) → slice_get entries index ≡ Some entry
+    → LeadsTo identities (identity_of entry) (search_of searches index)
+
+-- identities keep their positions
+abbrev pub KeepsIdentities : List Identity → List Identity → Type 0
+KeepsIdentities old new =
+    (position : ℕ) (one : Identity) → slice_get old position ≡ Some one → slice_get new position ≡ Some one
+
+-- the identities of modules
+abbrev pub identities_of : List WantedModule → List Identity
+identities_of modules = map (λ one. (string_bytes one.name, one.debug_id)) modules
+
+-- the identity of a module that was collected
+abbrev pub named_identity : NamedModule → Identity
+named_identity one = (string_bytes one.name, one.debug_id)
+
+-- the identities of the modules that were collected
+abbrev pub identities_in : Collector → List Identity
+identities_in collector = map named_identity collector.modules.items
 
 -- the module at this position has this offset, if the offset fits 32 bits
 abbrev pub HasOffset : List (List ℕ) → ℕ → ℕ → Type 0
@@ -155,14 +179,14 @@ offsets_of modules = map (λ one. one.offsets.items) modules
 abbrev pub offsets_in : Collector → List (List ℕ)
 offsets_in collector = map (λ one. one.offsets.items) collector.modules.items
 
--- each job of a request has its searches, which lead to modules with the names of its entries and the offsets of its
--- frames. For each offset of a module, a frame of a job asks for that offset of that module
-pub record AsksForEach (request : Request) (wanted : WantedModules) : Type 0 where
+-- each job of a request has its searches, which lead to modules with the names and debug ids of its entries and the
+-- offsets of its frames. For each offset of a module, a frame of a job asks for that offset of that module
+pub record AsksForEach (request : SymbolicationRequest) (wanted : WantedModules) : Type 0 where
   pub count : vec_len wanted.searches ≡ vec_len request.jobs
   pub each : (number : ℕ) (job : Job) → slice_get request.jobs.items number ≡ Some job
       → AsksFor job (job_searches wanted number)
   pub led : (number : ℕ) (job : Job) → slice_get request.jobs.items number ≡ Some job
-      → LeadToEntries (names_of wanted.modules.items) job.memory_map.items (job_searches wanted number)
+      → LeadToEntries (identities_of wanted.modules.items) job.memory_map.items (job_searches wanted number)
   pub served : (number : ℕ) (job : Job) → slice_get request.jobs.items number ≡ Some job
       → ServesJob (offsets_of wanted.modules.items) (job_searches wanted number) job
   pub only : (position offset : ℕ) → IsOffset (offsets_of wanted.modules.items) position offset

@@ -13,7 +13,7 @@ use std::alloc::{AllocError, Global};
 
 /// A function, and where in it the address is; what isn't known is `None`.
 #[derive(Clone, Copy)]
-pub struct Place<'f> {
+pub struct SymbolizedFrame<'f> {
     pub function: Option<&'f str>,
     pub file: Option<&'f str>,
     pub line: Option<u32>,
@@ -21,11 +21,11 @@ pub struct Place<'f> {
 
 /// A function that lies over an address, with those that are inlined there.
 #[derive(Drop)]
-pub struct FoundFunction<'f> {
+pub struct SymbolizedFunction<'f> {
     /// Where the function starts, relative to where its module is loaded.
     pub start: u32,
     /// From inside to outside, the function itself last.
-    pub places: Vec<Place<'f>>,
+    pub places: Vec<SymbolizedFrame<'f>>,
 }
 
 /// What an answer says of one offset of a module.
@@ -39,7 +39,7 @@ impl FrameText {
     pub fn new(
         alloc: Global,
         offset: u32,
-        found: Option<&FoundFunction<'_>>,
+        found: Option<&SymbolizedFunction<'_>>,
     ) -> Result<FrameText, AllocError>
         ensures { IfOk result (λ made. string_bytes made.text ≡ frame_text offset (option_copied found.entry)) }
     {
@@ -104,7 +104,11 @@ impl FrameTexts {
 }
 
 // Appends the members of what was found, a comma before each.
-fn push_found(text: &mut String, offset: u32, found: &FoundFunction<'_>) -> Result<(), AllocError>
+fn push_found(
+    text: &mut String,
+    offset: u32,
+    found: &SymbolizedFunction<'_>,
+) -> Result<(), AllocError>
     ensures { OnOk result (string_bytes text.new ≡ string_bytes text.old
         ++ later (place_members (offset - found.now.start) found.now.places.items)) }
 {
@@ -129,7 +133,7 @@ fn push_function(text: &mut String, name: Option<&str>, within: u32) -> Result<(
     write_hexadecimal(text, u64::from(within))
 }
 
-fn push_inlines(text: &mut String, calls: &[Place<'_>]) -> Result<(), AllocError>
+fn push_inlines(text: &mut String, calls: &[SymbolizedFrame<'_>]) -> Result<(), AllocError>
     ensures { OnOk result (string_bytes text.new ≡ string_bytes text.old ++ later (inlines_member calls.now)) }
 {
     if calls.is_empty() {
@@ -141,7 +145,7 @@ fn push_inlines(text: &mut String, calls: &[Place<'_>]) -> Result<(), AllocError
 }
 
 // Appends inlined calls, with a comma between two.
-fn push_calls(text: &mut String, calls: &[Place<'_>]) -> Result<(), AllocError>
+fn push_calls(text: &mut String, calls: &[SymbolizedFrame<'_>]) -> Result<(), AllocError>
     ensures { OnOk result (string_bytes text.new
         ≡ string_bytes text.old ++ separated (map inlined_call calls.now)) }
 {
@@ -153,7 +157,7 @@ fn push_calls(text: &mut String, calls: &[Place<'_>]) -> Result<(), AllocError>
 }
 
 // Appends an object of an inlined call.
-fn push_call(text: &mut String, call: &Place<'_>) -> Result<(), AllocError>
+fn push_call(text: &mut String, call: &SymbolizedFrame<'_>) -> Result<(), AllocError>
     ensures { OnOk result (string_bytes text.new ≡ string_bytes text.old ++ inlined_call call.now) }
 {
     let mut members = String::new(*text.allocator());
@@ -164,7 +168,7 @@ fn push_call(text: &mut String, call: &Place<'_>) -> Result<(), AllocError>
     text.push('}')
 }
 
-fn push_location(text: &mut String, place: &Place<'_>) -> Result<(), AllocError>
+fn push_location(text: &mut String, place: &SymbolizedFrame<'_>) -> Result<(), AllocError>
     ensures { OnOk result (string_bytes text.new ≡ string_bytes text.old ++ later (location_members place.now)) }
 {
     push_text(text, "file", place.file)?;

@@ -1,6 +1,6 @@
 //! Requests of Mozilla's symbolication API and their answers: functions, files and lines of addresses in stacks.
 //!
-//! [`Request::from_slice`] reads a request whole. [`WantedModules`] has the modules that its frames name, each once,
+//! [`SymbolicationRequest::from_slice`] reads a request whole. [`WantedModules`] has the modules that its frames name, each once,
 //! with the offsets at which they ask for it. Whoever finds these modules makes the [`FrameText`] of each offset, and
 //! [`write_answer`] puts every text at its frames. No file is opened here: [`is_harmless_name`] says which names of
 //! modules can be files of a folder.
@@ -17,11 +17,11 @@ mod requests;
 mod wanted_modules;
 mod whole_writes;
 
-pub use frame_texts::{FoundFunction, FrameText, FrameTexts, Place};
+pub use frame_texts::{FrameText, FrameTexts, SymbolizedFrame, SymbolizedFunction};
 pub use harmless_names::is_harmless_name;
 pub use json_text::write_quoted;
 pub use pdb_json_values::RecordFault;
 pub use request_answers::{error_line, write_answer};
-pub use requests::{FrameModule, Job, MemoryMapEntry, Request, Stack, StackFrame};
+pub use requests::{FrameModule, Job, MemoryMapEntry, Stack, StackFrame, SymbolicationRequest};
 pub use wanted_modules::{WantedModule, WantedModules};
 pub use whole_writes::write_whole;

@@ -1,18 +1,20 @@
 //! Goes through the frames of a request, and collects the modules that they name.
 
-ghost use Rattle.std.specs.Prelude.{◌≡◌, ◌<◌, ◌||◌, ◌++◌, ◌∷◌, [], ℕ, true};
-ghost use Rattle.std.specs.Prelude.{length, vec_len, slice_get, IfOk, IfSome, IsTrue, OnOk, string_bytes};
-ghost use Rattle.std.specs.Option.{option_copied};
+ghost use Rattle.std.specs.Prelude.{◌≡◌, ◌<◌, ◌||◌, ◌++◌, ◌∷◌, [], ℕ, true, Some};
+ghost use Rattle.std.specs.Prelude.{length, vec_len, slice_get, IfOk, IfSome, IsTrue, OnOk, OnSome, option_map};
+ghost use Rattle.std.specs.Prelude.{string_bytes};
 ghost use Rattle.pdb_symbolication.specs.Findings.{search_of};
 ghost use Rattle.pdb_symbolication.specs.HarmlessNames.{is_harmless};
 ghost use Rattle.pdb_symbolication.specs.WantedModules.{AsksFor, AsksForEach, FrameAsks, GainsOnly, HasOffset, JobAsks};
-ghost use Rattle.pdb_symbolication.specs.WantedModules.{KeepsModules, KeepsNames, KeepsOffsets, KeepsServed, LeadToEntries};
-ghost use Rattle.pdb_symbolication.specs.WantedModules.{LeadsTo, NoMore, ServesFrame, ServesJob, ServesStack, StackAsks};
-ghost use Rattle.pdb_symbolication.specs.WantedModules.{is_asked, is_entry, names_in, names_of, offsets_in, offsets_of};
-ghost use Rattle.pdb_symbolication.specs.WantedModules.{stack_names};
+ghost use Rattle.pdb_symbolication.specs.WantedModules.{KeepsIdentities, KeepsModules, KeepsOffsets, KeepsServed};
+ghost use Rattle.pdb_symbolication.specs.WantedModules.{LeadToEntries, LeadsTo, NoMore, ServesFrame, ServesJob};
+ghost use Rattle.pdb_symbolication.specs.WantedModules.{ServesStack, StackAsks, identities_in, identities_of};
+ghost use Rattle.pdb_symbolication.specs.WantedModules.{identity_of};
+ghost use Rattle.pdb_symbolication.specs.WantedModules.{identity_text, is_asked, is_entry, offsets_in, offsets_of};
+ghost use Rattle.pdb_symbolication.specs.WantedModules.{named_identity, stack_names};
 
 use crate::harmless_names::is_harmless_name;
-use crate::requests::{FrameModule, Job, MemoryMapEntry, Request, Stack, StackFrame};
+use crate::requests::{FrameModule, Job, MemoryMapEntry, Stack, StackFrame, SymbolicationRequest};
 use crate::wanted_modules::{NamedModule, Search, WantedModule, WantedModules};
 use pdb_identity::DebugId;
 use std::alloc::{AllocError, Global};
@@ -20,7 +22,7 @@ use std::collections::BTreeMap;
 
 impl WantedModules {
     /// The modules of a request. Entries of the same name and debug id, of whatever job, are one module.
-    pub fn of(alloc: Global, request: &Request) -> Result<WantedModules, AllocError>
+    pub fn of(alloc: Global, request: &SymbolicationRequest) -> Result<WantedModules, AllocError>
         ensures answer { IfOk result (AsksForEach request.now) }
     {
         let mut collector = Collector {
@@ -52,8 +54,8 @@ impl Collector {
     // Adds the frames of a job, and answers what they ask for of each entry of its memory map.
     fn add_job(&mut self, job: &Job) -> Result<Vec<Search>, AllocError>
         ensures led { IfOk result (λ searches.
-            LeadToEntries (names_in self.new) job.now.memory_map.items searches.items) }
-        ensures kept { OnOk result (KeepsNames (names_in self.old) (names_in self.new)) }
+            LeadToEntries (identities_in self.new) job.now.memory_map.items searches.items) }
+        ensures kept { OnOk result (KeepsIdentities (identities_in self.old) (identities_in self.new)) }
         ensures asked { IfOk result (λ searches. AsksFor job.now searches.items) }
         ensures offsets_kept { OnOk result (KeepsOffsets (offsets_in self.old) (offsets_in self.new)) }
         ensures served { IfOk result (λ searches. ServesJob (offsets_in self.new) searches.items job.now) }
@@ -74,9 +76,9 @@ impl Collector {
         stack: &Stack,
     ) -> Result<(), AllocError>
         requires count { length searches.old ≡ vec_len job.now.memory_map }
-        requires led { LeadToEntries (names_in self.old) job.now.memory_map.items searches.old }
-        ensures led { OnOk result (LeadToEntries (names_in self.new) job.now.memory_map.items searches.new) }
-        ensures kept { OnOk result (KeepsNames (names_in self.old) (names_in self.new)) }
+        requires led { LeadToEntries (identities_in self.old) job.now.memory_map.items searches.old }
+        ensures led { OnOk result (LeadToEntries (identities_in self.new) job.now.memory_map.items searches.new) }
+        ensures kept { OnOk result (KeepsIdentities (identities_in self.old) (identities_in self.new)) }
         ensures asked { OnOk result ((index : ℕ) → index < length searches.old → is_asked (search_of searches.new index)
             ≡ (is_asked (search_of searches.old index) || stack_names index stack.now)) }
         ensures offsets_kept { OnOk result (KeepsOffsets (offsets_in self.old) (offsets_in self.new)) }
@@ -99,9 +101,9 @@ impl Collector {
         frame: StackFrame,
     ) -> Result<(), AllocError>
         requires count { length searches.old ≡ vec_len job.now.memory_map }
-        requires led { LeadToEntries (names_in self.old) job.now.memory_map.items searches.old }
-        ensures led { OnOk result (LeadToEntries (names_in self.new) job.now.memory_map.items searches.new) }
-        ensures kept { OnOk result (KeepsNames (names_in self.old) (names_in self.new)) }
+        requires led { LeadToEntries (identities_in self.old) job.now.memory_map.items searches.old }
+        ensures led { OnOk result (LeadToEntries (identities_in self.new) job.now.memory_map.items searches.new) }
+        ensures kept { OnOk result (KeepsIdentities (identities_in self.old) (identities_in self.new)) }
         ensures asked { OnOk result ((index : ℕ) → index < length searches.old → is_asked (search_of searches.new index)
             ≡ (is_asked (search_of searches.old index) || is_entry index frame.module)) }
         ensures offsets_kept { OnOk result (KeepsOffsets (offsets_in self.old) (offsets_in self.new)) }
@@ -127,11 +129,11 @@ impl Collector {
 
     // The search for an entry that a frame names, which may be made already.
     fn made_search(&mut self, entry: &MemoryMapEntry, before: Search) -> Result<Search, AllocError>
-        requires { LeadsTo (names_in self.old) (string_bytes entry.now.name) before }
+        requires { LeadsTo (identities_in self.old) (identity_of entry.now) before }
         ensures same { IfOk result (λ search. is_asked before ≡ true → search ≡ before) }
         ensures asked { IfOk result (λ search. is_asked search ≡ true) }
-        ensures led { IfOk result (LeadsTo (names_in self.new) (string_bytes entry.now.name)) }
-        ensures kept { OnOk result (KeepsNames (names_in self.old) (names_in self.new)) }
+        ensures led { IfOk result (LeadsTo (identities_in self.new) (identity_of entry.now)) }
+        ensures kept { OnOk result (KeepsIdentities (identities_in self.old) (identities_in self.new)) }
         ensures offsets_kept { OnOk result (KeepsOffsets (offsets_in self.old) (offsets_in self.new)) }
         ensures no_more { OnOk result (NoMore (offsets_in self.old) (offsets_in self.new)) }
     {
@@ -144,15 +146,14 @@ impl Collector {
     // The search for an entry that a frame names.
     fn search_for(&mut self, entry: &MemoryMapEntry) -> Result<Search, AllocError>
         ensures asked { IfOk result (λ search. is_asked search ≡ true) }
-        ensures led { IfOk result (LeadsTo (names_in self.new) (string_bytes entry.now.name)) }
-        ensures kept { OnOk result (KeepsNames (names_in self.old) (names_in self.new)) }
+        ensures led { IfOk result (LeadsTo (identities_in self.new) (identity_of entry.now)) }
+        ensures kept { OnOk result (KeepsIdentities (identities_in self.old) (identities_in self.new)) }
         ensures offsets_kept { OnOk result (KeepsOffsets (offsets_in self.old) (offsets_in self.new)) }
         ensures no_more { OnOk result (NoMore (offsets_in self.old) (offsets_in self.new)) }
     {
-        let name = entry.name.as_str();
-        match DebugId::parse(entry.debug_id.as_str()) {
-            Some(debug_id) if is_harmless_name(name) => self.module_of(name, debug_id),
-            _ => Ok(Search::Impossible),
+        match searched_id(entry) {
+            Some(debug_id) => self.module_of(entry.name.as_str(), debug_id),
+            None => Ok(Search::Impossible),
         }
     }
 
@@ -160,8 +161,8 @@ impl Collector {
     fn module_of(&mut self, name: &str, debug_id: DebugId) -> Result<Search, AllocError>
         requires harmless { IsTrue (is_harmless name.now) }
         ensures asked { IfOk result (λ search. is_asked search ≡ true) }
-        ensures led { IfOk result (LeadsTo (names_in self.new) name.now) }
-        ensures kept { OnOk result (KeepsNames (names_in self.old) (names_in self.new)) }
+        ensures led { IfOk result (LeadsTo (identities_in self.new) (Some (name.now, debug_id))) }
+        ensures kept { OnOk result (KeepsIdentities (identities_in self.old) (identities_in self.new)) }
         ensures offsets_kept { OnOk result (KeepsOffsets (offsets_in self.old) (offsets_in self.new)) }
         ensures no_more { OnOk result (NoMore (offsets_in self.old) (offsets_in self.new)) }
     {
@@ -179,7 +180,8 @@ impl Collector {
 
     // Where the module of this name and debug id is, by its key.
     fn known_position(&self, key: &String, name: &str, debug_id: &DebugId) -> Option<usize>
-        ensures { IfSome result (λ position. slice_get (names_in self.now) position ≡ Some name.now) }
+        ensures { IfSome result (λ position.
+            slice_get (identities_in self.now) position ≡ Some (name.now, debug_id.now)) }
     {
         match self.positions.get(key) {
             Some(&position) if self.is_at(position, name, debug_id) => Some(position),
@@ -188,35 +190,25 @@ impl Collector {
     }
 
     fn is_at(&self, position: usize, name: &str, debug_id: &DebugId) -> bool
-        ensures { result ≡ true → slice_get (names_in self.now) position ≡ Some name.now }
+        ensures { result ≡ true → slice_get (identities_in self.now) position ≡ Some (name.now, debug_id.now) }
     {
-        match self.name_at(position) {
-            Some(known) if known == name => self.has_id(position, debug_id),
-            _ => false,
-        }
-    }
-
-    fn name_at(&self, position: usize) -> Option<&str>
-        ensures { option_copied result ≡ slice_get (names_in self.now) position }
-    {
-        match self.modules.get(position) {
-            Some(module) => Some(module.name.as_str()),
-            None => None,
-        }
-    }
-
-    fn has_id(&self, position: usize, debug_id: &DebugId) -> bool {
-        match self.modules.get(position) {
-            Some(module) => module.debug_id == *debug_id,
+        match self.module_at(position) {
+            Some(module) => module.is_of(name, debug_id),
             None => false,
         }
+    }
+
+    fn module_at(&self, position: usize) -> Option<&NamedModule>
+        ensures { option_map (λ one. named_identity one.now) result ≡ slice_get (identities_in self.now) position }
+    {
+        self.modules.get(position)
     }
 
     // Adds a module, and answers its position.
     fn add_module(&mut self, name: &str, debug_id: DebugId) -> Result<usize, AllocError>
         requires harmless { IsTrue (is_harmless name.now) }
-        ensures added { OnOk result (names_in self.new ≡ names_in self.old ++ name.now ∷ []) }
-        ensures position { IfOk result (λ position. position ≡ length (names_in self.old)) }
+        ensures added { OnOk result (identities_in self.new ≡ identities_in self.old ++ (name.now, debug_id) ∷ []) }
+        ensures position { IfOk result (λ position. position ≡ length (identities_in self.old)) }
         ensures offsets_added { OnOk result (offsets_in self.new ≡ offsets_in self.old ++ [] ∷ []) }
     {
         let position = self.modules.len();
@@ -230,8 +222,8 @@ impl Collector {
 
     // Adds an offset at which a frame asks for the module at this position.
     fn add_offset(&mut self, position: usize, offset: u64) -> Result<(), AllocError>
-        requires known { position < length (names_in self.old) }
-        ensures names { names_in self.new ≡ names_in self.old }
+        requires known { position < length (identities_in self.old) }
+        ensures identities { identities_in self.new ≡ identities_in self.old }
         ensures kept { OnOk result (KeepsOffsets (offsets_in self.old) (offsets_in self.new)) }
         ensures added { OnOk result (HasOffset (offsets_in self.new) position offset) }
         ensures only { OnOk result (GainsOnly (offsets_in self.old) (offsets_in self.new)
@@ -245,7 +237,7 @@ impl Collector {
 
     // The modules that are wanted.
     fn finish(self) -> Result<Vec<WantedModule>, AllocError>
-        ensures names { IfOk result (λ modules. names_of modules.items ≡ names_in self) }
+        ensures identities { IfOk result (λ modules. identities_of modules.items ≡ identities_in self) }
         ensures offsets { IfOk result (λ modules. KeepsOffsets (offsets_in self) (offsets_of modules.items)) }
         ensures no_more { IfOk result (λ modules. NoMore (offsets_in self) (offsets_of modules.items)) }
     {
@@ -257,7 +249,20 @@ impl Collector {
     }
 }
 
+// The debug id that an entry is searched by, if its name is harmless.
+fn searched_id(entry: &MemoryMapEntry) -> Option<DebugId>
+    ensures answer { option_map (λ id. (string_bytes entry.now.name, id)) result ≡ identity_of entry.now }
+    ensures harmless { OnSome result (IsTrue (is_harmless (string_bytes entry.now.name))) }
+{
+    if !is_harmless_name(entry.name.as_str()) {
+        return None;
+    }
+    DebugId::parse(entry.debug_id.as_str())
+}
+
 // The text by which a module is found again.
-fn key_of(alloc: Global, name: &str, debug_id: DebugId) -> Result<String, AllocError> {
+fn key_of(alloc: Global, name: &str, debug_id: DebugId) -> Result<String, AllocError>
+    ensures { IfOk result (λ key. string_bytes key ≡ identity_text (name.now, debug_id)) }
+{
     format!(in alloc; "{name}/{}", debug_id.compact())
 }

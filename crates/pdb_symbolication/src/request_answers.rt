@@ -13,7 +13,7 @@ ghost use Rattle.pdb_symbolication.specs.Writes.{Writes};
 use crate::findings::push_found_modules;
 use crate::frame_texts::FrameTexts;
 use crate::json_text::{self, write_hexadecimal, write_quoted};
-use crate::requests::{FrameModule, Job, Request, Stack, StackFrame};
+use crate::requests::{FrameModule, Job, Stack, StackFrame, SymbolicationRequest};
 use crate::wanted_modules::{Search, WantedModule, WantedModules};
 use crate::whole_writes::{write_comma, write_whole};
 use std::alloc::{AllocError, Global};
@@ -32,7 +32,7 @@ const UNKNOWN: &str = "<unknown>";
 pub fn write_answer<W: io::Write>(
     alloc: Global,
     out: &mut W,
-    request: &Request,
+    request: &SymbolicationRequest,
     wanted: &WantedModules,
     found: &[Option<FrameTexts>],
 ) -> io::Result<()>
@@ -49,7 +49,7 @@ pub fn write_answer<W: io::Write>(
 fn write_jobs<W: io::Write>(
     alloc: Global,
     out: &mut W,
-    request: &Request,
+    request: &SymbolicationRequest,
     wanted: &WantedModules,
     found: &[Option<FrameTexts>],
 ) -> io::Result<()>

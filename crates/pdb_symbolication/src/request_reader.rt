@@ -1,9 +1,19 @@
 //! Reads a request from its JSON value; the first fault in it is answered with the path to the value at fault.
 
-ghost use Rattle.std.specs.Prelude.{All, IfOk};
-ghost use Rattle.pdb_symbolication.specs.Requests.{IsOneOf, IsOver, NamesItsModules};
+ghost use Rattle.std.specs.Prelude.{◌≡◌, All, IfOk, codes, decimal, map, string_bytes, unwrap_or};
+ghost use Rattle.serde_json.specs.Data.{null};
+ghost use Rattle.serde_json.specs.Find.{get};
+ghost use Rattle.serde_json.specs.View.{view};
+ghost use Rattle.pdb_json_values.specs.RecordFault.{Agrees, AgreesBy, read_inside};
+ghost use Rattle.pdb_json_values.specs.Values.{found, text_of};
+ghost use Rattle.pdb_symbolication.specs.RequestValues.{entry_of, entry_seen, frame_of, is_job, job_of, job_seen};
+ghost use Rattle.pdb_symbolication.specs.RequestValues.{jobs_of};
+ghost use Rattle.pdb_symbolication.specs.RequestValues.{has, member_of, memory_map_of, module_at, module_of, one_job};
+ghost use Rattle.pdb_symbolication.specs.RequestValues.{pair_of, request_of};
+ghost use Rattle.pdb_symbolication.specs.RequestValues.{request_of_text, request_seen, stack_of, stack_seen, stacks_of};
+ghost use Rattle.pdb_symbolication.specs.Requests.{NamesItsModules};
 
-use crate::requests::{FrameModule, Job, MemoryMapEntry, Request, Stack, StackFrame};
+use crate::requests::{FrameModule, Job, MemoryMapEntry, Stack, StackFrame, SymbolicationRequest};
 use pdb_json_values::{
     FIRST_VERSION, Reader, RecordFault, array, inside, inside_element, object, signed, text,
     unsigned, wanted,
@@ -14,7 +24,7 @@ use std::alloc::Global;
 /// The index of a module that isn't known.
 const UNKNOWN: i64 = -1;
 
-impl Request {
+impl SymbolicationRequest {
     /// Reads a request of version 5 from a JSON text: an object with `jobs`, or one job by itself. Members that the API
     /// doesn't have are passed over.
     ///
@@ -22,7 +32,8 @@ impl Request {
     ///
     /// The first value that is absent, of another sort than is wanted, or out of range, by its path from the whole
     /// request, as in `/jobs/0/stacks/1/2/0`; that the text is none; or that memory ran out.
-    pub fn from_slice(alloc: Global, bytes: &[u8]) -> Result<Request, RecordFault>
+    pub fn from_slice(alloc: Global, bytes: &[u8]) -> Result<SymbolicationRequest, RecordFault>
+        ensures answer { AgreesBy request_seen result (request_of_text bytes.now) }
         ensures in_map { IfOk result (λ request. All NamesItsModules request.jobs.items) }
     {
         match Value::from_slice(alloc, bytes) {
@@ -40,162 +51,247 @@ fn first_reader(alloc: Global) -> Reader {
     }
 }
 
-// A fault, seen from around the array whose element of this number has it.
-fn fault_at(reader: Reader, number: usize, fault: RecordFault) -> RecordFault {
-    inside_element::<()>(reader.alloc, number, Err(fault)).unwrap_err()
-}
-
-// A fault, seen from around the object whose member of this name has it.
-fn fault_in(reader: Reader, name: &str, fault: RecordFault) -> RecordFault {
-    inside::<()>(reader.alloc, name, Err(fault)).unwrap_err()
-}
-
 // Reads a request: its jobs, or the one job that it is.
-fn request_of(reader: Reader, value: &Value) -> Result<Request, RecordFault>
-    ensures in_map { IfOk result (λ request. All NamesItsModules request.jobs.items) }
+#[tactic(auto, unfolding(crate::specs::RequestValues::request_of))]
+fn request_of(reader: Reader, value: &Value) -> Result<SymbolicationRequest, RecordFault>
+    ensures { AgreesBy request_seen result (request_of (view value.now)) }
 {
     let request = object(reader, Some(value))?;
-    if request.get("jobs").is_none() && is_job(request) {
+    if is_job(request) {
         return one_job(reader, request);
     }
-    match jobs_of(reader, request.get("jobs")) {
-        Ok(jobs) => Ok(Request { jobs }),
-        Err(fault) => Err(fault_in(reader, "jobs", fault)),
-    }
+    let jobs = jobs_in(reader, request)?;
+    Ok(SymbolicationRequest { jobs })
 }
 
-// Whether an object has one of the members of a job.
-fn is_job(object: &Value) -> bool {
-    object.get("memoryMap").is_some() || object.get("stacks").is_some()
+// Reads the jobs of a request.
+fn jobs_in(reader: Reader, request: &Value) -> Result<Vec<Job>, RecordFault>
+    ensures { AgreesBy (λ jobs. map job_seen jobs.items) result
+        (member_of (codes "jobs") jobs_of (view request.now)) }
+{
+    let jobs = jobs_of(reader, member(request, "jobs"));
+    inside(reader.alloc, "jobs", jobs)
+}
+
+// The value of an object's member, if it has one of this name.
+fn member<'v>(object: &'v Value, name: &str) -> Option<&'v Value>
+    ensures { found result ≡ unwrap_or (get name.now (view object.now)) null }
+{
+    object.get(name)
+}
+
+// Whether an object is a job: it has one of the members of a job, and none with the name `jobs`.
+fn is_job(object: &Value) -> bool
+    ensures { result ≡ is_job (view object.now) }
+{
+    !has(object, "jobs") && (has(object, "memoryMap") || has(object, "stacks"))
+}
+
+// Whether an object has a member of this name.
+fn has(object: &Value, name: &str) -> bool
+    ensures { result ≡ has name.now (view object.now) }
+{
+    object.get(name).is_some()
 }
 
 // Reads a request that is one job.
-fn one_job(reader: Reader, value: &Value) -> Result<Request, RecordFault>
-    ensures in_map { IfOk result (λ request. All NamesItsModules request.jobs.items) }
+#[tactic(auto, unfolding(crate::specs::RequestValues::one_job))]
+fn one_job(reader: Reader, value: &Value) -> Result<SymbolicationRequest, RecordFault>
+    ensures { AgreesBy request_seen result (one_job (view value.now)) }
 {
     let mut jobs = Vec::new(reader.alloc);
     let job = job_of(reader, value)?;
     jobs.push(job)?;
-    Ok(Request { jobs })
+    Ok(SymbolicationRequest { jobs })
 }
 
+#[tactic(auto, unfolding(crate::specs::RequestValues::jobs_of))]
 fn jobs_of(reader: Reader, value: Option<&Value>) -> Result<Vec<Job>, RecordFault>
-    ensures in_map { IfOk result (λ jobs. All NamesItsModules jobs.items) }
+    ensures { AgreesBy (λ jobs. map job_seen jobs.items) result (jobs_of (found value.entry)) }
 {
     let values = array(reader, value)?;
     let mut jobs = Vec::new(reader.alloc);
     for (number, value) in values.iter().enumerate() {
-        match job_of(reader, value) {
-            Ok(job) => jobs.push(job)?,
-            Err(fault) => return Err(fault_at(reader, number, fault)),
-        }
+        let job = job_at(reader, number, value)?;
+        jobs.push(job)?;
     }
     Ok(jobs)
 }
 
-fn job_of(reader: Reader, value: &Value) -> Result<Job, RecordFault>
-    ensures in_map { IfOk result NamesItsModules }
+// Reads the job of this number.
+fn job_at(reader: Reader, number: usize, value: &Value) -> Result<Job, RecordFault>
+    ensures { AgreesBy job_seen result (read_inside (decimal number) (job_of (view value.now))) }
 {
-    let job = object(reader, Some(value))?;
-    let memory_map = memory_map_of(reader, job.get("memoryMap"));
-    let memory_map = inside(reader.alloc, "memoryMap", memory_map)?;
-    match stacks_of(reader, memory_map.len(), job.get("stacks")) {
-        Ok(stacks) => Ok(Job { memory_map, stacks }),
-        Err(fault) => Err(fault_in(reader, "stacks", fault)),
-    }
+    inside_element(reader.alloc, number, job_of(reader, value))
 }
 
-fn memory_map_of(
-    reader: Reader,
-    value: Option<&Value>,
-) -> Result<Vec<MemoryMapEntry>, RecordFault> {
+#[tactic(auto, unfolding(crate::specs::RequestValues::job_of))]
+fn job_of(reader: Reader, value: &Value) -> Result<Job, RecordFault>
+    ensures { AgreesBy job_seen result (job_of (view value.now)) }
+{
+    let job = object(reader, Some(value))?;
+    let memory_map = memory_map_in(reader, job)?;
+    let stacks = stacks_in(reader, memory_map.len(), job)?;
+    Ok(Job { memory_map, stacks })
+}
+
+// Reads the memory map of a job.
+fn memory_map_in(reader: Reader, job: &Value) -> Result<Vec<MemoryMapEntry>, RecordFault>
+    ensures { AgreesBy (λ entries. map entry_seen entries.items) result
+        (member_of (codes "memoryMap") memory_map_of (view job.now)) }
+{
+    let memory_map = memory_map_of(reader, member(job, "memoryMap"));
+    inside(reader.alloc, "memoryMap", memory_map)
+}
+
+#[tactic(auto, unfolding(crate::specs::RequestValues::memory_map_of))]
+fn memory_map_of(reader: Reader, value: Option<&Value>) -> Result<Vec<MemoryMapEntry>, RecordFault>
+    ensures { AgreesBy (λ entries. map entry_seen entries.items) result (memory_map_of (found value.entry)) }
+{
     let values = array(reader, value)?;
     let mut entries = Vec::new(reader.alloc);
     for (number, value) in values.iter().enumerate() {
-        let entry = entry_of(reader, value);
-        entries.push(inside_element(reader.alloc, number, entry)?)?;
+        let entry = entry_at(reader, number, value)?;
+        entries.push(entry)?;
     }
     Ok(entries)
 }
 
-// Reads a module: its name, and its debug id.
-fn entry_of(reader: Reader, value: &Value) -> Result<MemoryMapEntry, RecordFault> {
-    match array(reader, Some(value))? {
-        [name, debug_id] => Ok(MemoryMapEntry {
-            name: text_at(reader, 0, name)?,
-            debug_id: text_at(reader, 1, debug_id)?,
-        }),
-        _ => wanted(reader.alloc, "name and debug id"),
+// Reads the entry of this number.
+fn entry_at(reader: Reader, number: usize, value: &Value) -> Result<MemoryMapEntry, RecordFault>
+    ensures { AgreesBy entry_seen result (read_inside (decimal number) (entry_of (view value.now))) }
+{
+    inside_element(reader.alloc, number, entry_of(reader, value))
+}
+
+// Reads an entry: its name, and its debug id.
+#[tactic(auto, unfolding(crate::specs::RequestValues::entry_of))]
+fn entry_of(reader: Reader, value: &Value) -> Result<MemoryMapEntry, RecordFault>
+    ensures { AgreesBy entry_seen result (entry_of (view value.now)) }
+{
+    let (name, debug_id) = pair_of(reader, value, "name and debug id")?;
+    let name = text_at(reader, 0, name)?;
+    let debug_id = text_at(reader, 1, debug_id)?;
+    Ok(MemoryMapEntry { name, debug_id })
+}
+
+// Reads the elements of an array of two, which `sort` names.
+#[tactic(auto, unfolding(crate::specs::RequestValues::pair_of))]
+fn pair_of<'v>(
+    reader: Reader,
+    value: &'v Value,
+    sort: &str,
+) -> Result<(&'v Value, &'v Value), RecordFault>
+    ensures { AgreesBy (λ pair. (view pair.0.now, view pair.1.now)) result (pair_of sort.now (view value.now)) }
+{
+    let elements = array(reader, Some(value))?;
+    if elements.len() != 2 {
+        return wanted(reader.alloc, sort);
     }
+    Ok((&elements[0], &elements[1]))
 }
 
 // Reads a text that is the element of this number.
-fn text_at(reader: Reader, number: usize, value: &Value) -> Result<String, RecordFault> {
-    match text(reader, Some(value)) {
-        Ok(text) => Ok(String::from_str(reader.alloc, text)?),
-        Err(fault) => Err(fault_at(reader, number, fault)),
-    }
+fn text_at(reader: Reader, number: usize, value: &Value) -> Result<String, RecordFault>
+    ensures { AgreesBy string_bytes result (read_inside (decimal number) (text_of (view value.now))) }
+{
+    inside_element(reader.alloc, number, text_of(reader, value))
+}
+
+fn text_of(reader: Reader, value: &Value) -> Result<String, RecordFault>
+    ensures { AgreesBy string_bytes result (text_of (view value.now)) }
+{
+    let text = text(reader, Some(value))?;
+    Ok(String::from_str(reader.alloc, text)?)
+}
+
+// Reads the stacks of a job, whose memory map has so many entries.
+fn stacks_in(reader: Reader, modules: usize, job: &Value) -> Result<Vec<Stack>, RecordFault>
+    ensures { AgreesBy (λ stacks. map stack_seen stacks.items) result
+        (member_of (codes "stacks") (stacks_of modules) (view job.now)) }
+{
+    let stacks = stacks_of(reader, modules, member(job, "stacks"));
+    inside(reader.alloc, "stacks", stacks)
 }
 
 // Reads stacks of addresses in so many modules.
+#[tactic(auto, unfolding(crate::specs::RequestValues::stacks_of))]
 fn stacks_of(
     reader: Reader,
     modules: usize,
     value: Option<&Value>,
 ) -> Result<Vec<Stack>, RecordFault>
-    ensures in_map { IfOk result (λ stacks. All (IsOver modules) stacks.items) }
+    ensures { AgreesBy (λ stacks. map stack_seen stacks.items) result (stacks_of modules (found value.entry)) }
 {
     let values = array(reader, value)?;
     let mut stacks = Vec::new(reader.alloc);
     for (number, value) in values.iter().enumerate() {
-        match stack_of(reader, modules, value) {
-            Ok(stack) => stacks.push(stack)?,
-            Err(fault) => return Err(fault_at(reader, number, fault)),
-        }
+        let stack = stack_at(reader, modules, number, value)?;
+        stacks.push(stack)?;
     }
     Ok(stacks)
 }
 
+// Reads the stack of this number.
+fn stack_at(
+    reader: Reader,
+    modules: usize,
+    number: usize,
+    value: &Value,
+) -> Result<Stack, RecordFault>
+    ensures { AgreesBy stack_seen result (read_inside (decimal number) (stack_of modules (view value.now))) }
+{
+    inside_element(reader.alloc, number, stack_of(reader, modules, value))
+}
+
+#[tactic(auto, unfolding(crate::specs::RequestValues::stack_of))]
 fn stack_of(reader: Reader, modules: usize, value: &Value) -> Result<Stack, RecordFault>
-    ensures in_map { IfOk result (IsOver modules) }
+    ensures { AgreesBy stack_seen result (stack_of modules (view value.now)) }
 {
     let values = array(reader, Some(value))?;
     let mut frames = Vec::new(reader.alloc);
     for (number, value) in values.iter().enumerate() {
-        match frame_of(reader, modules, value) {
-            Ok(frame) => frames.push(frame)?,
-            Err(fault) => return Err(fault_at(reader, number, fault)),
-        }
+        let frame = inside_element(reader.alloc, number, frame_of(reader, modules, value))?;
+        frames.push(frame)?;
     }
     Ok(Stack { frames })
 }
 
 // Reads an address: the index of its module, and its offset there.
+#[tactic(auto, unfolding(crate::specs::RequestValues::frame_of))]
 fn frame_of(reader: Reader, modules: usize, value: &Value) -> Result<StackFrame, RecordFault>
-    ensures in_map { IfOk result (λ frame. IsOneOf modules frame.module) }
+    ensures { Agrees result (frame_of modules (view value.now)) }
 {
-    match array(reader, Some(value))? {
-        [module, offset] => match module_of(reader, modules, module) {
-            Ok(module) => Ok(StackFrame {
-                module,
-                offset: inside_element(reader.alloc, 1, unsigned(reader, Some(offset)))?,
-            }),
-            Err(fault) => Err(fault_at(reader, 0, fault)),
-        },
-        _ => wanted(reader.alloc, "index of a module and offset"),
-    }
+    let (module, offset) = pair_of(reader, value, "index of a module and offset")?;
+    let module = inside_element(reader.alloc, 0, module_of(reader, modules, module))?;
+    let offset = inside_element(reader.alloc, 1, unsigned(reader, Some(offset)))?;
+    Ok(StackFrame { module, offset })
 }
 
 // Reads which of so many modules an address lies in.
+#[tactic(auto, unfolding(crate::specs::RequestValues::module_of))]
 fn module_of(reader: Reader, modules: usize, value: &Value) -> Result<FrameModule, RecordFault>
-    ensures in_map { IfOk result (IsOneOf modules) }
+    ensures { Agrees result (module_of modules (view value.now)) }
 {
     let index = signed(reader, Some(value))?;
+    match module_at(modules, index) {
+        Some(module) => Ok(module),
+        None => wanted(reader.alloc, "index of memoryMap, or -1"),
+    }
+}
+
+// The module of an index, where the memory map has so many entries.
+fn module_at(modules: usize, index: i64) -> Option<FrameModule>
+    ensures { result ≡ module_at modules index }
+{
     if index == UNKNOWN {
-        return Ok(FrameModule::Unknown);
+        return Some(FrameModule::Unknown);
     }
-    match usize::try_from(index) {
-        Ok(index) if index < modules => Ok(FrameModule::At(index)),
-        _ => wanted(reader.alloc, "index of memoryMap, or -1"),
+    let Ok(index) = usize::try_from(index) else {
+        return None;
+    };
+    if index < modules {
+        return Some(FrameModule::At(index));
     }
+    None
 }

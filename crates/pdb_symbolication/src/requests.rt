@@ -2,7 +2,7 @@
 
 /// A request of the symbolication API, version 5.
 #[derive(Drop)]
-pub struct Request {
+pub struct SymbolicationRequest {
     pub jobs: Vec<Job>,
 }
 
@@ -27,7 +27,7 @@ pub struct Stack {
     pub frames: Vec<StackFrame>,
 }
 
-/// An address: so many bytes behind where its module is loaded.
+/// An address: so many bytes after where its module is loaded.
 #[derive(Clone, Copy)]
 pub struct StackFrame {
     pub module: FrameModule,

@@ -1,7 +1,7 @@
 //! Modules that the frames of a request name, each once, with the offsets at which they ask for it.
 
 ghost use Rattle.std.specs.List.Sorted.{IsStrictlyIncreasing};
-ghost use Rattle.std.specs.Prelude.{◌≡◌, ◌==◌, ◌<◌, ◌^◌, ◌⊎◌, position, Contains, IsTrue, OnOk, string_bytes, ℕ};
+ghost use Rattle.std.specs.Prelude.{◌≡◌, ◌==◌, ◌<◌, ◌^◌, ◌⊎◌, position, Contains, IsTrue, OnOk, string_bytes, true, ℕ};
 ghost use Rattle.pdb_symbolication.specs.HarmlessNames.{is_harmless};
 
 use pdb_identity::DebugId;
@@ -50,9 +50,18 @@ pub(crate) struct NamedModule {
 }
 
 impl NamedModule {
+    // Whether it has this name and this debug id.
+    pub(crate) fn is_of(&self, name: &str, debug_id: &DebugId) -> bool
+        ensures name { result ≡ true → string_bytes self.now.name ≡ name.now }
+        ensures debug_id { result ≡ true → self.now.debug_id ≡ debug_id.now }
+    {
+        self.name.as_str() == name && self.debug_id == *debug_id
+    }
+
     // Adds an offset at which a frame asks for it.
     pub(crate) fn add_offset(&mut self, offset: u64) -> Result<(), AllocError>
         ensures name { self.new.name ≡ self.old.name }
+        ensures debug_id { self.new.debug_id ≡ self.old.debug_id }
         ensures kept { OnOk result ((other : ℕ) → Contains self.old.offsets.items other
             → Contains self.new.offsets.items other) }
         ensures added { OnOk result (offset < 2 ^ 32 → Contains self.new.offsets.items offset) }
@@ -68,6 +77,7 @@ impl NamedModule {
     // The module, whose offsets then ascend and stand there once.
     pub(crate) fn wanted(self) -> WantedModule
         ensures name { result.name ≡ self.name }
+        ensures debug_id { result.debug_id ≡ self.debug_id }
         ensures kept { (offset : ℕ) → Contains self.offsets.items offset → Contains result.offsets.items offset }
         ensures only { (offset : ℕ) → Contains result.offsets.items offset → Contains self.offsets.items offset }
     {

@@ -6,7 +6,7 @@ use Rattle.std.proofs.KnownBytes.{Appends-nil, Appends-trans}
 use Rattle.pdb_answer_printer.specs.declared.printer_options.Style.{Style}
 use Rattle.pdb_symbolizer_lib.specs.AnswersInOrder.{AnswerEach, Answered, AnsweredFirst, line_text, lines_text}
 
--- answers, and then those to what is asked behind
+-- answers, and then those to what is asked after
 pub each_append : (answers : List ℕ → List ℕ → Type 0) (asked texts more others : List (List ℕ))
     → AnswerEach answers asked texts → AnswerEach answers more others
     → AnswerEach answers (asked ++ more) (texts ++ others)

@@ -6,23 +6,23 @@ use Rattle.std.specs.Option.{option_map_or}
 use Rattle.pdb_records.specs.Records.{Records}
 use Rattle.pdb_types.specs.declared.flags.TypeFormatterFlags.{TypeFormatterFlags}
 use Rattle.pdb_frames.specs.Frame.{FramesInfo}
-use Rattle.pdb_msf.specs.StreamMap.{IfFile}
-use Rattle.pdb_container.specs.Records.{records_of}
+use Rattle.pdb_msf.specs.MsfLayout.{IfFile}
+use Rattle.pdb_container.specs.PdbFile.{records_of}
 use Rattle.pdb_repairs.specs.Repaired.{repaired}
 use Rattle.pdb_addr2line.specs.ContextData.{context_of}
 use Rattle.pdb_addr2line.specs.ContextInputs.{ContextInputs}
 use Rattle.pdb_known.specs.Known.{Known}
 use Rattle.pdb_session.specs.FileParts.{IsPartOfFile}
 use Rattle.pdb_session.specs.Session.{SameFile, SessionFile, needs, needs_none}
-use Rattle.pdb_answer_printer.specs.Requests.{Question, Target, AtAddress, OfSymbol, AtNone}
-use Rattle.pdb_answer_printer.specs.declared.requests.Sort.{Sort}
-use Rattle.pdb_answer_printer.specs.declared.requests.Sort.TheVariants.{Code, Data, Frame}
+use Rattle.pdb_answer_printer.specs.InputLine.{Question, Target, AtAddress, OfSymbol, AtNone}
+use Rattle.pdb_answer_printer.specs.declared.input_line.Sort.{Sort}
+use Rattle.pdb_answer_printer.specs.declared.input_line.Sort.TheVariants.{Code, Data, Frame}
 use Rattle.pdb_symbolizer_lib.specs.AnsweredRequests.{AnswersText, AreFrames, AreFramesAt, AreFramesOfFile}
 use Rattle.pdb_symbolizer_lib.specs.AnsweredRequests.{AreFramesOver}
 use Rattle.pdb_symbolizer_lib.specs.AnsweredRequests.{IsAnswer, IsAnswerBy, asked_address, asks_more, code_address}
 use Rattle.pdb_symbolizer_lib.specs.AnsweredRequests.{question_by, scanned_frames}
 use Rattle.pdb_symbolizer_lib.specs.AnswersInOrder.{AnswerEach}
-use Rattle.pdb_symbolizer_lib.specs.Origins.{relative}
+use Rattle.pdb_symbolizer_lib.specs.ImageBases.{relative}
 use Rattle.pdb_symbolizer_lib.specs.declared.questions.Questions.{Questions}
 
 -- frames that are right at an address in one sense are right in another
@@ -53,11 +53,11 @@ answer_too questions question right others address text too answer = record {
 -- so is the answer of a request
 request_too : (sort : Sort) (target : Target) (questions : Questions) (question : Question)
     (right others : ℕ → Option FramesInfo → Type 0) (text : List ℕ)
-    → ((at : ℕ) (found : Option FramesInfo) → code_address sort target (relative questions.origin) ≡ Some at
+    → ((at : ℕ) (found : Option FramesInfo) → code_address sort target (relative questions.image_base) ≡ Some at
     → right at found → others at found)
     → IsAnswerBy sort target questions question right text → IsAnswerBy sort target questions question others text
 request_too Code (AtAddress given) questions question right others text too answer =
-    answer_too questions question right others (relative questions.origin given) text too answer
+    answer_too questions question right others (relative questions.image_base given) text too answer
 request_too Code (OfSymbol name) questions question right others text too answer = answer
 request_too Code (AtNone lack) questions question right others text too answer = answer
 request_too Data target questions question right others text too answer = answer
@@ -112,7 +112,7 @@ part_of_same before after known same part =
     subst (λ (bytes : Option (List ℕ)). IsPartOfFile known bytes before.file_length) same.0
     (subst (λ (file_length : ℕ). IsPartOfFile known after.bytes file_length) same.1 part)
 
--- where nothing is still to be read for several addresses, nothing is for the first, and for those behind it
+-- where nothing is still to be read for several addresses, nothing is for the first, and for those after it
 none_first : (known : Known) (address : Option ℕ) (addresses : List ℕ)
     → needs_none known (cons_option address addresses) ≡ true
     → (option_map_or (needs known) address false ≡ false) × (needs_none known addresses ≡ true)

@@ -117,7 +117,7 @@ lines_stop answers style (Some all) left old new so_far = record {
   answered = answered_of_more so_far.lines so_far.taken.0 so_far.answered;
 }
 
--- the run ends while lines behind these are answered
+-- the run ends while lines after these are answered
 pub lines_stop_amid : (answers : List ℕ → List ℕ → Type 0) (style : Style) (known left : Option (List (List ℕ)))
     (old middle new : Option (List ℕ)) → AnsweredLines answers style known left old middle
     → AnsweredFirstLines answers style left middle new → AnsweredFirstLines answers style known old new
@@ -134,7 +134,7 @@ lines_stop_amid answers style known left old middle new so_far behind = record {
   all (Some whole) (Some rest) lines more taken same =
       let is : rest ≡ taken.0 = cc in ap (λ rest. lines ++ rest) (same ∙ is) ∙ taken.1.1
 
--- lines behind these are answered too
+-- lines after these are answered too
 pub lines_more : (answers : List ℕ → List ℕ → Type 0) (style : Style) (known left last : Option (List (List ℕ)))
     (old middle new : Option (List ℕ)) → AnsweredLines answers style known left old middle
     → AnsweredLines answers style left last middle new → AnsweredLines answers style known last old new

@@ -157,7 +157,7 @@ line_ends style known left line old middle new so_far begins one =
     within style known (so_far.lines ++ line ∷ []) old new (behind known left so_far.lines line so_far.taken begins)
     (answered_first_more style so_far.lines (line ∷ []) old middle new so_far.answered one)
 
--- it ends behind the next line
+-- it ends after the next line
 pub line_last : {answers : List ℕ → List ℕ → Type 0} (style : Style) (known left : Option (List (List ℕ)))
     (line : List ℕ) (old middle new : Option (List ℕ)) → AnsweredLines answers style known left old middle
     → BeginWith left line → Answered answers (lines_text style) (line ∷ []) middle new

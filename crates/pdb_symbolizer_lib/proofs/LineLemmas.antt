@@ -17,7 +17,7 @@ mark_for_no_text line other = by_test (is_utf8 line) refl where
   by_test true is = absurd (other (IsUtf8-from_is_utf8 line is))
   by_test false is = rw is refl
 
--- the first line is what goes through the first line break, and the other lines are those of the bytes behind it
+-- the first line is what goes through the first line break, and the other lines are those of the bytes after it
 pub first_of_lines : (byte : ℕ) (bytes : List ℕ) → split_lines (byte ∷ bytes)
     ≡ take_through 10 (byte ∷ bytes) ∷ split_lines (drop_through 10 (byte ∷ bytes))
 first_of_lines byte [] = by_test (byte == 10) refl where

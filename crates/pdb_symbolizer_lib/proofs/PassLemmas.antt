@@ -6,7 +6,7 @@ use Rattle.std.specs.Global.{Global}
 use Rattle.std.specs.Prelude.{IfSome, String}
 use Rattle.pdb_symbolizer_lib.specs.InputLines.{asked_in_turn, asked_lines}
 
--- what is asked for behind the first of some lines
+-- what is asked for after the first of some lines
 behind_first : (lines : List (String Global)) (rest : Option (List ℕ)) → 1 < length lines
     → IfSome (asked_in_turn lines rest) (λ all. asked_in_turn (drop 1 lines) rest ≡ Some (drop 1 all))
 behind_first [] rest more = absurd (omega arith)
@@ -14,7 +14,7 @@ behind_first (line ∷ []) rest more = absurd (omega arith)
 behind_first (line ∷ next ∷ lines) None more = tt
 behind_first (line ∷ next ∷ lines) (Some bytes) more = refl
 
--- what is asked for behind the last line that was read is what is read next
+-- what is asked for after the last line that was read is what is read next
 behind_last : (lines others : List (String Global)) (rest after : Option (List ℕ)) → length lines ≤ 1
     → IfSome rest (λ bytes. asked_in_turn others after ≡ Some (asked_lines bytes))
     → IfSome (asked_in_turn lines rest) (λ all. asked_in_turn others after ≡ Some (drop 1 all))
@@ -25,7 +25,7 @@ behind_last (line ∷ []) others None after few filled = tt
 behind_last (line ∷ []) others (Some bytes) after few filled = filled
 behind_last (line ∷ next ∷ lines) others rest after few filled = absurd (omega arith)
 
--- where a line is ready behind the first, it is the next
+-- where a line is ready after the first, it is the next
 pub passes_to_ready : (lines : List (String Global)) (place next : ℕ) (rest : Option (List ℕ)) → next ≡ place + 1
     → next < length lines
     → IfSome (asked_in_turn (drop place lines) rest) (λ all. asked_in_turn (drop next lines) rest ≡ Some (drop 1 all))
@@ -33,7 +33,7 @@ passes_to_ready lines place next rest is more =
     let two : 1 < length (drop place lines) = omega (arith, length-drop place lines) in
     rw (is, ← drop-drop 1 place lines) (behind_first (drop place lines) rest two)
 
--- where none is ready behind the first, the lines that are read next are what is asked for
+-- where none is ready after the first, the lines that are read next are what is asked for
 pub passes_to_read : (lines others : List (String Global)) (place : ℕ) (rest after : Option (List ℕ))
     → length lines ≤ place + 1 → IfSome rest (λ bytes. asked_in_turn others after ≡ Some (asked_lines bytes))
     → IfSome (asked_in_turn (drop place lines) rest) (λ all. asked_in_turn others after ≡ Some (drop 1 all))

@@ -20,7 +20,7 @@ pub reads_none : (known : Option (List ℕ)) → IfSome known (λ bytes. Reads b
 reads_none None = tt
 reads_none (Some bytes) = record { rest = bytes; left = refl; asked = refl }
 
--- an input that isn't empty asks for the text of its first line, and then for what is behind it
+-- an input that isn't empty asks for the text of its first line, and then for what is after it
 asked_first : (bytes text : List ℕ) → bytes ≢ [] → text ≡ text_of_line (take_through 10 bytes)
     → asked_lines bytes ≡ trim text ∷ asked_lines (drop_through 10 bytes)
 asked_first [] text some is = absurd (some refl)

@@ -12,8 +12,8 @@ use Rattle.pdb_addr2line.specs.Lookups.{answered_refusal, blamed_at, frames_at}
 use Rattle.pdb_addr2line.specs.NamedFunctions.{named_answer, named_frames_answered, symbol_name_at}
 use Rattle.pdb_known.specs.Known.{infos_of}
 use Rattle.pdb_session.specs.Session.{GivesFrames, over}
-use Rattle.pdb_session.specs.declared.session_context.QuestionFault.{QuestionFault}
-use Rattle.pdb_session.specs.declared.session_context.QuestionFault.TheVariants as fault
+use Rattle.pdb_session.specs.declared.session_context.QuestionError.{QuestionError}
+use Rattle.pdb_session.specs.declared.session_context.QuestionError.TheVariants as fault
 use Rattle.pdb_symbolizer_lib.specs.AnsweredRequests.{frames_or_none, scanned_frames}
 
 -- in place of a refusal there are no frames, whatever failed before
@@ -39,15 +39,15 @@ answered_are_scanned state inputs address found gives =
     sym (ap frames_or_none gives) ∙ answer_is_scanned state inputs address
 
 -- frames that the records refuse are none, unless memory ran out
-pub refused_are_none : (why : QuestionFault) (error : Error) (state : ContextState Records)
+pub refused_are_none : (why : QuestionError) (error : Error) (state : ContextState Records)
     (inputs : ContextInputs Records) (address : ℕ) → why ≡ fault.Records error → error ≢ OutOfMemory
     → GivesFrames (Err why) state inputs address → None ≡ scanned_frames inputs address
 refused_are_none why error state inputs address is other gives =
-    sym (ap frames_or_none (subst (λ (f : QuestionFault). GivesFrames (Err f) state inputs address) is gives other))
+    sym (ap frames_or_none (subst (λ (f : QuestionError). GivesFrames (Err f) state inputs address) is gives other))
     ∙ answer_is_scanned state inputs address
 
 -- what is answered was read
-pub was_read : (why : QuestionFault) (state : ContextState Records) (inputs : ContextInputs Records) (address : ℕ)
+pub was_read : (why : QuestionError) (state : ContextState Records) (inputs : ContextInputs Records) (address : ℕ)
     → why ≡ fault.NotRead → GivesFrames (Err why) state inputs address → ⊥
 was_read why state inputs address is gives =
-    subst (λ (f : QuestionFault). GivesFrames (Err f) state inputs address) is gives
+    subst (λ (f : QuestionError). GivesFrames (Err f) state inputs address) is gives

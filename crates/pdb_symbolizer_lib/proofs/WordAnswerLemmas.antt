@@ -18,7 +18,7 @@ use Rattle.pdb_symbolication.specs.Writes.{AppendsBeginning, Writes}
 use Rattle.pdb_symbolizer_lib.proofs.AnswerLemmas.{each_append}
 use Rattle.pdb_symbolication.proofs.WriteLemmas.{Goes, goes_amid, goes_end, goes_first, goes_no_more}
 
--- the answers so far, behind what stands before them
+-- the answers so far, after what stands before them
 abbrev pub front_text : Style → List (List ℕ) → List ℕ
 front_text style texts = list_start style ++ words_listed style texts
 
@@ -47,7 +47,7 @@ as_many answers [] (text ∷ texts) each = absurd each
 as_many answers (one ∷ asked) [] each = absurd each
 as_many answers (one ∷ asked) (text ∷ texts) each = ap suc (as_many answers asked texts each.1)
 
--- of the answers so far only what stands behind them is left
+-- of the answers so far only what stands after them is left
 pub end_left : (style : Style) (texts : List (List ℕ)) (old middle : Option (List ℕ))
     → Appends old middle (front_text style texts) → Goes old middle (list_end style) (words_text style texts)
 end_left style texts old middle written = record {
@@ -56,7 +56,7 @@ end_left style texts old middle written = record {
   held = written;
 }
 
--- an answer more is left, with what stands before it and behind all
+-- an answer more is left, with what stands before it and after all
 pub answer_left : (style : Style) (texts : List (List ℕ)) (text : List ℕ) (old middle : Option (List ℕ))
     → Appends old middle (front_text style texts)
     → Goes old middle (separator style (length texts == 0) ++ (text ++ list_end style))
@@ -178,7 +178,7 @@ pub words_end_early : {A E : Type 0} (answers : List ℕ → List ℕ → Type 0
 words_end_early answers style words old new (Ok done) failed early = absurd (cc)
 words_end_early answers style words old new (Err fault) failed early = early
 
--- behind the last word
+-- after the last word
 pub words_end : {A E : Type 0} (answers : List ℕ → List ℕ → Type 0) (style : Style) (words : List (List ℕ))
     (old middle new : Option (List ℕ)) (result : Result A E)
     → Answered answers (front_text style) words old middle → Writes middle new result (list_end style)

@@ -5,8 +5,8 @@ use Rattle.pdb_records.specs.Records.{Records}
 use Rattle.pdb_errors.specs.declared.error.Error.{Error}
 use Rattle.pdb_types.specs.declared.flags.TypeFormatterFlags.{TypeFormatterFlags}
 use Rattle.pdb_frames.specs.Frame.{FramesInfo}
-use Rattle.pdb_msf.specs.StreamMap.{IfFile}
-use Rattle.pdb_container.specs.Records.{records_of}
+use Rattle.pdb_msf.specs.MsfLayout.{IfFile}
+use Rattle.pdb_container.specs.PdbFile.{records_of}
 use Rattle.pdb_repairs.specs.Repaired.{repaired}
 use Rattle.pdb_addr2line.specs.ContextData.{context_of}
 use Rattle.pdb_addr2line.specs.ContextInputs.{ContextInputs}
@@ -14,16 +14,16 @@ use Rattle.pdb_addr2line.specs.Lookups.{frames_at}
 use Rattle.pdb_addr2line.specs.NamedFunctions.{named_answer, symbol_name_at}
 use Rattle.pdb_known.specs.Known.{IsPartOf, Known, infos_of}
 use Rattle.pdb_session.specs.Session.{SessionFile, needs}
-use Rattle.pdb_answer_printer.specs.Answers.{answer_text, unknown_text}
+use Rattle.pdb_answer_printer.specs.AnswerText.{answer_text, unknown_text}
 use Rattle.pdb_answer_printer.specs.FrameNames.{shown_frames}
-use Rattle.pdb_answer_printer.specs.RequestLines.{request_of}
-use Rattle.pdb_answer_printer.specs.Requests.{Question, Target, AtAddress}
+use Rattle.pdb_answer_printer.specs.InputLineParser.{request_of}
+use Rattle.pdb_answer_printer.specs.InputLine.{Question, Target, AtAddress}
 use Rattle.pdb_answer_printer.specs.declared.printer_options.Digits.{Digits}
 use Rattle.pdb_answer_printer.specs.declared.printer_options.NameStyle.{NameStyle}
 use Rattle.pdb_answer_printer.specs.declared.printer_options.NameStyle.TheVariants.{Short}
-use Rattle.pdb_answer_printer.specs.declared.requests.Sort.{Sort}
-use Rattle.pdb_answer_printer.specs.declared.requests.Sort.TheVariants.{Code}
-use Rattle.pdb_symbolizer_lib.specs.Origins.{relative}
+use Rattle.pdb_answer_printer.specs.declared.input_line.Sort.{Sort}
+use Rattle.pdb_answer_printer.specs.declared.input_line.Sort.TheVariants.{Code}
+use Rattle.pdb_symbolizer_lib.specs.ImageBases.{relative}
 use Rattle.pdb_symbolizer_lib.specs.PublicNames.{public_named}
 use Rattle.pdb_symbolizer_lib.specs.declared.options.FileNaming.{FileNaming}
 use Rattle.pdb_symbolizer_lib.specs.declared.options.FileNaming.TheVariants as naming
@@ -52,7 +52,7 @@ code_address sort target relative = None
 abbrev pub asked_address : Questions → List ℕ → Option ℕ
 asked_address questions text =
     let question = question_by questions text in
-    code_address question.sort question.target (relative questions.origin)
+    code_address question.sort question.target (relative questions.image_base)
 
 -- something is still to be read for the answer of a text
 abbrev pub asks_more : Known → Questions → List ℕ → Bool
@@ -115,7 +115,7 @@ pub record IsAnswer (questions : Questions) (question : Question) (right : ℕ �
 abbrev pub IsAnswerBy : Sort → Target → Questions → Question → (ℕ → Option FramesInfo → Type 0) → List ℕ
     → Type 0
 IsAnswerBy Code (AtAddress given) questions question right text =
-    IsAnswer questions question right (relative questions.origin given) text
+    IsAnswer questions question right (relative questions.image_base given) text
 IsAnswerBy sort target questions question right text =
     text ≡ unknown_text questions.options.now.printer question
 

@@ -33,7 +33,7 @@ abbrev pub separator : Style → Bool → List ℕ
 separator Json first = comma_before first
 separator style first = []
 
--- what stands behind them
+-- what stands after them
 abbrev pub list_end : Style → List ℕ
 list_end Json = codes "]\n"
 list_end style = []

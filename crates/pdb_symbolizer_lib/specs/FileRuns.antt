@@ -7,7 +7,7 @@ use Rattle.pdb_session.specs.Session.{SessionFile}
 use Rattle.pdb_symbolizer_lib.specs.AnsweredRequests.{AnswersText, AreFramesOfFile, flags_of}
 use Rattle.pdb_symbolizer_lib.specs.AnswersInOrder.{AnswersAllLines, AnswersInOrder, words_text}
 use Rattle.pdb_symbolizer_lib.specs.InputLines.{asked_lines}
-use Rattle.pdb_symbolizer_lib.specs.Origins.{origin_of}
+use Rattle.pdb_symbolizer_lib.specs.ImageBases.{image_base_of}
 use Rattle.pdb_symbolizer_lib.specs.PublicNames.{function_name, known_name}
 use Rattle.pdb_symbolizer_lib.specs.declared.options.Options.{Options}
 use Rattle.pdb_symbolizer_lib.specs.declared.questions.Questions.{Questions}
@@ -18,7 +18,7 @@ pub record AskOf (options : Options) (path : List ℕ) (base : Option ℕ) (reco
     : Type 0 where
   pub given : questions.options.now ≡ options
   pub named : questions.file.now ≡ path
-  pub loaded : questions.origin ≡ origin_of options base
+  pub loaded : questions.image_base ≡ image_base_of options base
   pub names : (start : ℕ) → known_name questions.names.now start ≡ function_name options records start
 
 -- a text answers what is asked, by the frames over all records of a session's file

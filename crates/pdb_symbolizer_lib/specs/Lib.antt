@@ -5,5 +5,5 @@ pub mod ExitStatuses
 pub mod FileContents
 pub mod FileRuns
 pub mod InputLines
-pub mod Origins
+pub mod ImageBases
 pub mod PublicNames

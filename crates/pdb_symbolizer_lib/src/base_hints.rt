@@ -1,17 +1,17 @@
-//! The line on standard error for an address with a program's base in it, where a PDB file alone doesn't say that.
+//! A hint on standard error for addresses that contain the program's base. A PDB file alone doesn't say where that is.
 
 use crate::public_names::PublicNames;
 
-/// Where linkers have programs and DLLs loaded, unless they are told otherwise.
+/// The addresses at which linkers have programs and DLLs loaded by default.
 const BASES: [u64; 4] = [0x40_0000, 0x1000_0000, 0x1_4000_0000, 0x1_8000_0000];
 
-/// The lowest address that is taken for one with a base in it.
+/// Addresses below this one contain no base.
 const LOWEST: u64 = 0x40_0000;
 
-/// What stands before the option.
+/// The words before the option.
 const HINT: &str = "for addresses with the base in them say";
 
-/// Whether it was said already how a base is given.
+/// Whether the hint was printed already.
 #[derive(Clone, Copy, PartialEq, Eq)]
 pub enum BaseHint {
     ToBePrinted,
@@ -19,7 +19,7 @@ pub enum BaseHint {
 }
 
 impl BaseHint {
-    /// Prints once how a base is given, where an address lies in no section, and does less one of the usual bases.
+    /// Prints, once, how to give a base, if the address lies in no section, but does so without one of the default bases.
     pub fn print<R: Eprint>(&mut self, rt: &R, file: &str, names: &PublicNames, given: u64) {
         if *self == BaseHint::Printed || given < LOWEST || names.lies_in_section(given) {
             return;

@@ -5,7 +5,7 @@ use crate::run_errors::RunError;
 use crate::status_line::{StatusLine, Watched};
 use pdb_addr2line::Error;
 use pdb_addr2line::pdb::{ModuleInfo, PDB};
-use pdb_export::{ExportFault, write_module, write_records};
+use pdb_export::{ExportError, write_module, write_records};
 use pdb_records_files::{module_path, ran_out_of_memory};
 use std::alloc::Global;
 use std::rt::Files;
@@ -33,7 +33,7 @@ fn write_records_file<R: Files + Eprint + Clock + AllocGlobal>(
     path: &str,
     records: &PDB,
     names: &[String],
-) -> Result<(), ExportFault> {
+) -> Result<(), ExportError> {
     let mut file = create(rt, status_line, path)?;
     write_records(rt.alloc(), &mut file, records, names)
 }
@@ -85,7 +85,7 @@ fn write_module_file<R: Files + Eprint + Clock + AllocGlobal>(
     status_line: &mut StatusLine,
     path: &str,
     info: &ModuleInfo,
-) -> Result<(), ExportFault> {
+) -> Result<(), ExportError> {
     let mut file = create(rt, status_line, path)?;
     write_module(rt.alloc(), &mut file, info)
 }
@@ -95,7 +95,7 @@ fn create<'p, R: Files>(
     rt: &'p R,
     status_line: &'p mut StatusLine,
     path: &str,
-) -> Result<Watched<'p, R, R::File>, ExportFault> {
+) -> Result<Watched<'p, R, R::File>, ExportError> {
     match fs::create(rt, path) {
         Ok(writer) => Ok(Watched {
             rt,
@@ -106,19 +106,19 @@ fn create<'p, R: Files>(
     }
 }
 
-fn fault_of(error: &io::Error) -> ExportFault {
+fn fault_of(error: &io::Error) -> ExportError {
     if ran_out_of_memory(error) {
-        ExportFault::OutOfMemory
+        ExportError::OutOfMemory
     } else {
-        ExportFault::CannotWrite
+        ExportError::CannotWrite
     }
 }
 
 /// What the outcome of writing to this path means for the run.
-fn written_to(alloc: Global, path: &str, outcome: Result<(), ExportFault>) -> Result<(), RunError> {
+fn written_to(alloc: Global, path: &str, outcome: Result<(), ExportError>) -> Result<(), RunError> {
     match outcome {
         Ok(()) => Ok(()),
-        Err(ExportFault::OutOfMemory) => Err(RunError::Refused(Error::OutOfMemory)),
+        Err(ExportError::OutOfMemory) => Err(RunError::Refused(Error::OutOfMemory)),
         Err(fault) => Err(RunError::Export(String::from_str(alloc, path)?, fault)),
     }
 }

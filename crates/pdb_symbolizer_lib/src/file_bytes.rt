@@ -1,7 +1,7 @@
 //! The bytes of a file: in memory, or in the file, where a range is read as it is asked for.
 
 use crate::file_stamps::FileStamp;
-use pdb_container::{ContainerFault, Source, Unreadable, other_file};
+use pdb_container::{ContainerError, RangeError, Source, other_file};
 use std::alloc::Global;
 use std::fs::{self, Metadata, OpenFile};
 use std::io::{self, Read, Seek, SeekFrom};
@@ -25,12 +25,12 @@ impl<F: Read + Seek + Drop> Source for FileBytes<F> {
 
     ghost refuses_from = { λ bytes. 0 };
 
-    fn read_exact_at(&mut self, buffer: &mut [u8], place: usize) -> Result<(), Unreadable> {
+    fn read_exact_at(&mut self, buffer: &mut [u8], place: usize) -> Result<(), RangeError> {
         match self {
             FileBytes::InMemory(bytes) => bytes.as_slice().read_exact_at(buffer, place),
             FileBytes::OnDisk(file, _, _) => match read_range(file, buffer, place) {
                 Ok(()) => Ok(()),
-                Err(_) => Err(Unreadable),
+                Err(_) => Err(RangeError),
             },
         }
     }
@@ -146,7 +146,7 @@ fn read_all<F: Read>(alloc: Global, file: &mut F) -> io::Result<Vec<u8>> {
 // Whether these are the bytes of a PDB file, or of one that isn't read, and not of a records file.
 fn is_pdb_file(bytes: &[u8]) -> bool {
     match other_file(bytes) {
-        ContainerFault::NotAPdbFile => bytes.starts_with(&PDB_FILE),
+        ContainerError::NotAPdbFile => bytes.starts_with(&PDB_FILE),
         _ => true,
     }
 }

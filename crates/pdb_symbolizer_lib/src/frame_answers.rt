@@ -1,12 +1,12 @@
 //! The answer of one request: the frames of an address of code, or that nothing is known.
 
 ghost use Rattle.std.specs.Prelude.{◌≡◌, ℕ, List, IfErr, IfOk, option_map, string_bytes};
-ghost use Rattle.pdb_answer_printer.specs.Answers.{answer_text, unknown_text};
+ghost use Rattle.pdb_answer_printer.specs.AnswerText.{answer_text, unknown_text};
 ghost use Rattle.pdb_answer_printer.specs.FrameNames.{shown_frames};
-ghost use Rattle.pdb_answer_printer.specs.Requests.{question_of};
+ghost use Rattle.pdb_answer_printer.specs.InputLine.{question_of};
 ghost use Rattle.pdb_symbolizer_lib.specs.AnsweredRequests.{AnswersQuestion, AnswersText, AreFramesAt, AreNamedFrames};
 ghost use Rattle.pdb_symbolizer_lib.specs.EarlyEnds.{out_of_memory};
-ghost use Rattle.pdb_symbolizer_lib.specs.Origins.{relative};
+ghost use Rattle.pdb_symbolizer_lib.specs.ImageBases.{relative};
 ghost use Rattle.pdb_symbolizer_lib.specs.PublicNames.{public_named};
 
 use crate::options::Options;
@@ -16,9 +16,9 @@ use crate::run_errors::RunError;
 use crate::run_state::RunState;
 use pdb_addr2line::{Error, Frame, FunctionFrames};
 use pdb_answer_printer::{
-    Place, Request, Sort, file_of, shown_frames, write_answer, write_unknown,
+    InputLine, InputTarget, Sort, file_of, shown_frames, write_answer, write_unknown,
 };
-use pdb_session::{QuestionFault, SessionContext};
+use pdb_session::{QuestionError, SessionContext};
 use std::alloc::{AllocError, Global};
 use std::rt::Files;
 
@@ -46,7 +46,7 @@ fn answer_request<R: Files + Eprint + AllocGlobal>(
     questions: &Questions<'_, '_>,
     context: &mut SessionContext<'_, '_>,
     state: &mut RunState,
-    request: &Request<'_>,
+    request: &InputLine<'_>,
     given: &str,
 ) -> Result<String, RunError>
     ensures text { IfOk result (λ text. AnswersQuestion questions.now
@@ -56,7 +56,7 @@ fn answer_request<R: Files + Eprint + AllocGlobal>(
     ensures flags { context.new.flags ≡ context.old.flags }
 {
     match (request.sort, request.place) {
-        (Sort::Code, Place::Address(address)) => {
+        (Sort::Code, InputTarget::Address(address)) => {
             let found = frames_at(rt, questions, context, state, address)?;
             Ok(text_of_found(rt, questions.options, state, request, &found)?)
         }
@@ -71,7 +71,7 @@ fn answer_request<R: Files + Eprint + AllocGlobal>(
 fn text_of_unknown(
     alloc: Global,
     options: &Options<'_>,
-    request: &Request<'_>,
+    request: &InputLine<'_>,
 ) -> Result<String, AllocError>
     ensures { IfOk result (λ text. string_bytes text ≡ unknown_text options.now.printer (question_of request.now)) }
 {
@@ -81,8 +81,8 @@ fn text_of_unknown(
 }
 
 /// Says on standard error why a text asks for nothing, unless it is empty.
-pub fn print_lack<R: Eprint>(rt: &R, request: &Request<'_>, given: &str) {
-    if let Place::Nowhere(lack) = request.place
+pub fn print_lack<R: Eprint>(rt: &R, request: &InputLine<'_>, given: &str) {
+    if let InputTarget::Nowhere(lack) = request.place
         && let Some(why) = lack.words()
     {
         let _ = eprintln!(rt; "pdb_symbolizer: {given}: {why}");
@@ -94,7 +94,7 @@ fn text_of_found<R: Files + AllocGlobal>(
     rt: &R,
     options: &Options<'_>,
     state: &mut RunState,
-    request: &Request<'_>,
+    request: &InputLine<'_>,
     found: &Option<FunctionFrames<'_>>,
 ) -> Result<String, AllocError>
     ensures { IfOk result (λ text. (sources : List (List ℕ)) × (string_bytes text
@@ -140,15 +140,15 @@ fn frames_at<'a, R: Eprint + AllocGlobal>(
     given: u64,
 ) -> Result<Option<FunctionFrames<'a>>, Error>
     ensures found { IfOk result (λ named. AreNamedFrames questions.now
-        (AreFramesAt context.old.known context.old.flags) (relative questions.now.origin given) named) }
+        (AreFramesAt context.old.known context.old.flags) (relative questions.now.image_base given) named) }
     ensures memory { IfErr result (λ error. error ≡ Error.OutOfMemory) }
     ensures known { context.new.known ≡ context.old.known }
     ensures flags { context.new.flags ≡ context.old.flags }
 {
-    if !questions.origin.is_known() {
+    if !questions.image_base.is_known() {
         state.hint.print(rt, questions.file, questions.names, given);
     }
-    let Some(address) = questions.origin.relative(given) else {
+    let Some(address) = questions.image_base.relative(given) else {
         return Ok(None);
     };
     let found = readable_frames(rt, context, given, address)?;
@@ -184,12 +184,12 @@ fn readable_frames<'a, R: Eprint>(
 {
     match context.find_frames(address) {
         Ok(found) => Ok(found),
-        Err(QuestionFault::Records(error)) => {
+        Err(QuestionError::Records(error)) => {
             let error = error.unless_out_of_memory()?;
             let _ = eprintln!(rt; "pdb_symbolizer: 0x{given:x}: {error}");
             Ok(None)
         }
-        Err(QuestionFault::NotRead) => {
+        Err(QuestionError::NotRead) => {
             let _ = eprintln!(rt; "pdb_symbolizer: 0x{given:x}: its module was not read");
             Ok(None)
         }

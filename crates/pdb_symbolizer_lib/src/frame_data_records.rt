@@ -48,7 +48,7 @@ pub fn frame_data_records<R: Eprint + AllocGlobal, F: Read + Seek + Drop>(
 // The records, with the sizes of parameters by addresses.
 fn frame_records(alloc: Global, records: StackWinRecords) -> Result<FrameRecords, AllocError> {
     Ok(FrameRecords {
-        parameters: Segments::of_painted(alloc, &records.parameter_sizes)?,
+        parameters: Segments::from_overlapping(alloc, &records.parameter_sizes)?,
         text: records.text,
     })
 }

@@ -13,10 +13,10 @@ use crate::run_errors::RunError;
 use crate::status_line::StatusLine;
 use pdb_addr2line::Error;
 use pdb_addr2line::pdb::PDB;
-use pdb_container::{ContainerFault, OpenFault, read_pdb};
+use pdb_container::{ContainerError, OpenError, read_pdb};
 use pdb_identity::CodeId;
 use pdb_json::RecordsFile;
-use pdb_records_files::{ModuleFileFault, ran_out_of_memory, read_module_files};
+use pdb_records_files::{ModuleFileError, ran_out_of_memory, read_module_files};
 use std::alloc::Global;
 use std::fs;
 use std::io::{self, Read, Seek};
@@ -187,19 +187,19 @@ impl<F: Read + Seek + Drop> SourceFile<F> {
     }
 }
 
-fn container_error(alloc: Global, path: &str, fault: ContainerFault) -> RunError {
+fn container_error(alloc: Global, path: &str, fault: ContainerError) -> RunError {
     match (String::from_str(alloc, path), fault) {
-        (_, ContainerFault::OutOfMemory) => RunError::Refused(Error::OutOfMemory),
+        (_, ContainerError::OutOfMemory) => RunError::Refused(Error::OutOfMemory),
         (Ok(path), fault) => RunError::Container(path, fault),
         (Err(_), _) => RunError::Refused(Error::OutOfMemory),
     }
 }
 
 /// Why a run ends over a file that can't be opened.
-pub fn open_error(alloc: Global, path: &str, fault: OpenFault) -> RunError {
+pub fn open_error(alloc: Global, path: &str, fault: OpenError) -> RunError {
     match fault {
-        OpenFault::Container(fault) => container_error(alloc, path, fault),
-        OpenFault::Unreadable => unreadable(alloc, path),
+        OpenError::Container(fault) => container_error(alloc, path, fault),
+        OpenError::Unreadable => unreadable(alloc, path),
     }
 }
 
@@ -259,11 +259,11 @@ pub fn read_file<R: Files + AllocGlobal>(rt: &R, path: &str) -> Result<Vec<u8>, 
 }
 
 /// Why a run ends over a records file whose module files can't be read.
-fn module_file_error(alloc: Global, path: &str, fault: ModuleFileFault) -> RunError {
+fn module_file_error(alloc: Global, path: &str, fault: ModuleFileError) -> RunError {
     match fault {
-        ModuleFileFault::OutOfMemory => RunError::Refused(Error::OutOfMemory),
-        ModuleFileFault::CannotRead(path) => RunError::Unreadable(path),
-        ModuleFileFault::Records(fault) => match String::from_str(alloc, path) {
+        ModuleFileError::OutOfMemory => RunError::Refused(Error::OutOfMemory),
+        ModuleFileError::CannotRead(path) => RunError::Unreadable(path),
+        ModuleFileError::Records(fault) => match String::from_str(alloc, path) {
             Ok(path) => RunError::Records(path, fault),
             Err(_) => RunError::Refused(Error::OutOfMemory),
         },

@@ -6,7 +6,6 @@
 //! standard input and output by its runtime.
 #![tactic(auto)]
 
-mod addresses;
 mod arguments;
 mod base_hints;
 mod command_line;
@@ -22,6 +21,7 @@ mod foreign_files;
 mod frame_answers;
 mod frame_data_records;
 mod identities;
+mod image_bases;
 mod input_files;
 mod kept_files;
 mod known_modules;
@@ -29,7 +29,7 @@ mod known_programs;
 mod known_texts;
 mod line_answers;
 mod line_queue;
-mod named_files;
+mod named_file_lines;
 mod opened_files;
 mod options;
 mod outputs;
@@ -38,7 +38,7 @@ mod programs;
 mod public_names;
 mod questions;
 mod record_sizes;
-mod repairs;
+mod repair_lines;
 mod response_files;
 mod run_errors;
 mod run_state;

@@ -99,7 +99,7 @@ impl<T: Read + Drop> LineQueue<T> {
     }
 }
 
-// Reads a line, if there is one, and those behind it that are ready, in place of the lines that were there.
+// Reads a line, if there is one, and those after it that are ready, in place of the lines that were there.
 fn fill<T: Read>(
     alloc: Global,
     reader: &mut BufReader<T, Global>,

@@ -9,15 +9,15 @@ use crate::input_files::{
     NamedFile, SourceFile, find_file, open_error, read_records_file, unreadable,
 };
 use crate::options::Options;
-use crate::repairs::print_repairs;
+use crate::repair_lines::print_repairs;
 use crate::run_errors::RunError;
 use crate::status_line::StatusLine;
 use pdb_addr2line::Error;
 use pdb_addr2line::pdb::PDB;
-use pdb_container::SourceFault;
+use pdb_container::SourceError;
 use pdb_identity::CodeId;
 use pdb_repairs::Repair;
-use pdb_session::{Opened, PdbSession, SessionFault};
+use pdb_session::{Opened, PdbSession, SessionError};
 use std::alloc::Global;
 use std::io::{Read, Seek};
 use std::rt::Files;
@@ -67,15 +67,15 @@ impl<F: Read + Seek + Drop> OpenedFile<F> {
     fn print_read<R: Eprint + AllocGlobal>(
         &self,
         rt: &R,
-        read: Result<Vec<Repair>, SourceFault>,
+        read: Result<Vec<Repair>, SourceError>,
     ) -> Result<(), RunError>
         ensures read { OnOk result (IsOk read) }
         ensures early { IfErr result (EndsRead (string_bytes self.now.path)) }
     {
         match read {
             Ok(repairs) => print_repairs(rt, self.path.as_str(), self.records(), &repairs),
-            Err(SourceFault::OutOfMemory) => Err(RunError::Refused(Error::OutOfMemory)),
-            Err(SourceFault::Unreadable) => Err(unreadable(rt.alloc(), self.path.as_str())),
+            Err(SourceError::OutOfMemory) => Err(RunError::Refused(Error::OutOfMemory)),
+            Err(SourceError::Unreadable) => Err(unreadable(rt.alloc(), self.path.as_str())),
         }
     }
 }
@@ -142,11 +142,11 @@ fn opened_file<R: Eprint + AllocGlobal, F: Read + Seek + Drop>(
 }
 
 // Why a run ends over a file over which no session can be opened.
-fn session_error(alloc: Global, path: &str, fault: SessionFault) -> RunError {
+fn session_error(alloc: Global, path: &str, fault: SessionError) -> RunError {
     match fault {
-        SessionFault::File(fault) => open_error(alloc, path, fault),
-        SessionFault::Records(error) => RunError::Refused(error),
-        SessionFault::Refused(refusal) => match String::from_str(alloc, path) {
+        SessionError::File(fault) => open_error(alloc, path, fault),
+        SessionError::Records(error) => RunError::Refused(error),
+        SessionError::Refused(refusal) => match String::from_str(alloc, path) {
             Ok(path) => RunError::PdbFile(path, refusal),
             Err(_) => RunError::Refused(Error::OutOfMemory),
         },

@@ -1,4 +1,4 @@
-//! The last part of a path, behind a slash of either kind.
+//! The last part of a path, after a slash of either kind.
 
 pub use pdb_answer_printer::base_name as last_part;
 

@@ -9,7 +9,7 @@ use crate::options::Options;
 use crate::paths::file_name;
 use crate::run_errors::RunError;
 use pdb_addr2line::Error;
-use pdb_container::{ContainerFault, DebugId, OpenFault, read_identity_of};
+use pdb_container::{ContainerError, DebugId, OpenError, read_identity_of};
 use pdb_identity::CodeView;
 use pdb_records_files::ran_out_of_memory;
 use pdb_symbolication::WantedModule;
@@ -44,7 +44,7 @@ pub fn find_pdb<R: Files + AllocGlobal>(
         match look_further(rt, &mut ids, &mut looked, &mut listings, options, &wanted)? {
             Search::Found(found) => return Ok(found),
             Search::Compressed(path) => {
-                write!(looked, "\n    {path}: {}", ContainerFault::Compressed)?;
+                write!(looked, "\n    {path}: {}", ContainerError::Compressed)?;
             }
             Search::Nothing => {}
         }
@@ -77,7 +77,7 @@ pub fn find_in_folders<R: Files + AllocGlobal>(
     }
     match look_further(rt, ids, &mut looked, listings, options, &wanted)? {
         Search::Found(found) => Ok(Some(found)),
-        Search::Compressed(path) => Err(RunError::Container(path, ContainerFault::Compressed)),
+        Search::Compressed(path) => Err(RunError::Container(path, ContainerError::Compressed)),
         Search::Nothing => Ok(None),
     }
 }
@@ -191,11 +191,11 @@ fn look_into<F: Read + Seek + Drop>(
             look_by_id(alloc, bytes, identity.debug_id, wanted)
         }
         Ok(None) => rejected(alloc, "no id"),
-        Err(OpenFault::Container(ContainerFault::OutOfMemory)) => {
+        Err(OpenError::Container(ContainerError::OutOfMemory)) => {
             Err(RunError::Refused(Error::OutOfMemory))
         }
-        Err(OpenFault::Container(fault)) => { Ok(Look::Rejected(format!(in alloc; "{fault}")?)) }
-        Err(OpenFault::Unreadable) => rejected(alloc, "can't be read"),
+        Err(OpenError::Container(fault)) => { Ok(Look::Rejected(format!(in alloc; "{fault}")?)) }
+        Err(OpenError::Unreadable) => rejected(alloc, "can't be read"),
     }
 }
 

@@ -9,7 +9,7 @@ ghost use Rattle.pdb_symbolizer_lib.specs.PublicNames.{decorated, decorated_fram
 ghost use Rattle.pdb_symbolizer_lib.specs.PublicNames.{public_name, public_name_in, sections_of, wanted_name};
 
 use crate::options::Options;
-use crate::repairs::text_of;
+use crate::repair_lines::text_of;
 use pdb_frames::{Frame, FunctionFrames};
 use pdb_records::{AddressMap, PDB, PdbInternalSectionOffset, RawString, Rva, Symbol, SymbolData};
 use pdb_tables::insert_first;

@@ -1,30 +1,30 @@
-//! What is asked of a file, and what its answers have from beside the context.
+//! The questions that a run asks of one file: the options, the file's name, its image base, and its public symbols.
 
 ghost use Rattle.std.specs.Prelude.{◌≡◌};
-ghost use Rattle.pdb_answer_printer.specs.Requests.{question_of};
+ghost use Rattle.pdb_answer_printer.specs.InputLine.{question_of};
 ghost use Rattle.pdb_symbolizer_lib.specs.AnsweredRequests.{asked_address, asks_more, question_by};
-ghost use Rattle.pdb_symbolizer_lib.specs.Origins.{origin_of};
+ghost use Rattle.pdb_symbolizer_lib.specs.ImageBases.{image_base_of};
 
-use crate::addresses::Origin;
+use crate::image_bases::ImageBase;
 use crate::opened_files::OpenedFile;
 use crate::options::{FileNaming, Options};
 use crate::public_names::PublicNames;
-use pdb_answer_printer::{Place, Request, Sort, parse_request};
+use pdb_answer_printer::{InputLine, InputTarget, Sort, parse_input_line};
 use pdb_session::SessionContext;
 use std::io::{Read, Seek};
 
-/// What is asked, of which file, and what is had from beside the context.
+/// What all questions of one file have in common.
 #[derive(Clone, Copy)]
 pub struct Questions<'q, 'w> {
     pub options: &'q Options<'w>,
     /// The file as it was named.
     pub file: &'q str,
-    pub origin: Origin,
+    pub image_base: ImageBase,
     pub names: &'q PublicNames,
 }
 
 impl<'q, 'w> Questions<'q, 'w> {
-    /// What is asked of a file that was opened.
+    /// The questions of a file that was opened.
     pub fn new<F: Read + Seek + Drop>(
         options: &'q Options<'w>,
         file: &'q str,
@@ -33,13 +33,13 @@ impl<'q, 'w> Questions<'q, 'w> {
     ) -> Self
         ensures options { result.options.now ≡ options.now }
         ensures file { result.file.now ≡ file.now }
-        ensures origin { result.origin ≡ origin_of options.now input.now.image_base }
+        ensures image_base { result.image_base ≡ image_base_of options.now input.now.image_base }
         ensures names { result.names.now ≡ names.now }
     {
         Questions {
             options,
             file,
-            origin: Origin::new(options.base, input.image_base, options.adjust),
+            image_base: ImageBase::new(options.base, input.image_base, options.adjust),
             names,
         }
     }
@@ -47,14 +47,14 @@ impl<'q, 'w> Questions<'q, 'w> {
 
 impl Questions<'_, '_> {
     /// The request of a text, which names its file where the command line names none.
-    pub fn request<'t>(&'t self, text: &'t str) -> Request<'t>
+    pub fn request<'t>(&'t self, text: &'t str) -> InputLine<'t>
         ensures { question_of result ≡ question_by self.now text.now }
     {
         let file = match self.options.naming {
             FileNaming::ByEachLine => None,
             _ => Some(self.file),
         };
-        parse_request(text, file, self.options.digits)
+        parse_input_line(text, file, self.options.digits)
     }
 
     /// The address of code that a text asks for, relative to where the program is loaded, where it can lie there.
@@ -63,7 +63,7 @@ impl Questions<'_, '_> {
     {
         let request = self.request(text);
         match (request.sort, request.place) {
-            (Sort::Code, Place::Address(given)) => self.origin.relative(given),
+            (Sort::Code, InputTarget::Address(given)) => self.image_base.relative(given),
             _ => None,
         }
     }

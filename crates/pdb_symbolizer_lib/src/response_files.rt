@@ -1,4 +1,4 @@
-//! Response files: the words of a file, which a word names behind an `@`, stand in that word's place.
+//! Response files: the words of a file, which a word names after an `@`, stand in that word's place.
 
 use crate::input_files::read_file;
 use crate::run_errors::RunError;
@@ -32,7 +32,7 @@ fn push_words_of(alloc: Global, bytes: &[u8], words: &mut Vec<String>) -> Result
 
 /// Where the splitting of a text stands.
 #[derive(Clone, Copy, PartialEq, Eq)]
-enum Place {
+enum WordState {
     BetweenWords,
     InWord,
     /// In quotation marks of this kind, where space is a part of the word.
@@ -42,28 +42,28 @@ enum Place {
 /// Appends the words of a text, between which white space stands. Quotation marks hold a word together.
 pub fn push_words(alloc: Global, text: &str, words: &mut Vec<String>) -> Result<(), AllocError> {
     let mut word = String::new(alloc);
-    let mut place = Place::BetweenWords;
+    let mut place = WordState::BetweenWords;
     for character in text.chars() {
         place = match (place, character) {
-            (Place::Quoted(mark), _) if mark == character => Place::InWord,
-            (Place::Quoted(_), _) => {
+            (WordState::Quoted(mark), _) if mark == character => WordState::InWord,
+            (WordState::Quoted(_), _) => {
                 word.push(character)?;
                 place
             }
-            (_, '"' | '\'') => Place::Quoted(character),
-            (Place::BetweenWords, _) if character.is_whitespace() => Place::BetweenWords,
+            (_, '"' | '\'') => WordState::Quoted(character),
+            (WordState::BetweenWords, _) if character.is_whitespace() => WordState::BetweenWords,
             (_, _) if character.is_whitespace() => {
                 words.push(word)?;
                 word = String::new(alloc);
-                Place::BetweenWords
+                WordState::BetweenWords
             }
             _ => {
                 word.push(character)?;
-                Place::InWord
+                WordState::InWord
             }
         };
     }
-    if place != Place::BetweenWords {
+    if place != WordState::BetweenWords {
         words.push(word)?;
     }
     Ok(())

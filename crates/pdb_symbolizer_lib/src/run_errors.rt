@@ -9,16 +9,16 @@ use crate::foreign_files::ForeignFile;
 use crate::identities::ExpectedBuild;
 use clap::error::ErrorKind;
 use pdb_addr2line::Error;
-use pdb_breakpad::SymbolFileFault;
-use pdb_container::{ContainerFault, DebugId, Refusal};
-use pdb_export::ExportFault;
+use pdb_breakpad::SymbolFileError;
+use pdb_container::{ContainerError, DebugId, PdbFileError};
+use pdb_export::ExportError;
 use pdb_json::RecordFault;
 use pdb_records_files::ran_out_of_memory;
-use pdb_session::QuestionFault;
+use pdb_session::QuestionError;
 use std::alloc::{AllocError, AllocFailed};
 use std::io;
 
-/// Why a run of the program ended early. Its text is the line that the program prints behind its name.
+/// Why a run of the program ended early. Its text is the line that the program prints after its name.
 #[derive(Debug, Drop, thiserror::Error)]
 pub enum RunError {
     /// The words ask for help or for the version, or for nothing that is known.
@@ -62,10 +62,10 @@ pub enum RunError {
     NoPdbFile(String),
     /// The file is a PDB file that can't be read.
     #[error("{0}: {1}")]
-    Container(String, ContainerFault),
+    Container(String, ContainerError),
     /// The file is a PDB file over which nothing can be answered.
     #[error("{0}: {1}")]
-    PdbFile(String, Refusal),
+    PdbFile(String, PdbFileError),
     /// The file is of another build than is expected: first the file's, then the expected one.
     #[error("{0}: its id is {1}, not {2}")]
     OtherBuild(String, DebugId, ExpectedBuild),
@@ -77,10 +77,10 @@ pub enum RunError {
     Records(String, RecordFault),
     /// The file at this path could not be written.
     #[error("{0}: {1}")]
-    Export(String, ExportFault),
+    Export(String, ExportError),
     /// The symbol file at this path could not be written.
     #[error("{0}: {1}")]
-    SymbolFile(String, SymbolFileFault),
+    SymbolFile(String, SymbolFileError),
     /// The records were refused, or there was no memory.
     #[error("{0}")]
     Refused(Error),
@@ -168,10 +168,10 @@ fn status_of_words(kind: ErrorKind) -> u8
     }
 }
 
-/// What the advice begins with to write an option that isn't known behind `--`, which would have it taken for a file.
+/// What the advice begins with to write an option that isn't known after `--`, which would have it taken for a file.
 const ADVICE: &str = "tip: to pass ";
 
-// Prints what is wrong with the words, without that advice and the empty line behind it.
+// Prints what is wrong with the words, without that advice and the empty line after it.
 fn print_wrong_words<R: Print + Eprint + AllocGlobal>(rt: &R, error: &clap::Error) {
     let Ok(text) = format!(in rt.alloc(); "{error}") else {
         let _ = error.print(rt);
@@ -210,20 +210,20 @@ impl From<Error> for RunError {
     }
 }
 
-impl From<SymbolFileFault> for RunError {
-    fn from(fault: SymbolFileFault) -> RunError {
+impl From<SymbolFileError> for RunError {
+    fn from(fault: SymbolFileError) -> RunError {
         match fault {
-            SymbolFileFault::Refused(error) => RunError::Refused(error),
-            SymbolFileFault::NotRead => RunError::NotRead,
-            SymbolFileFault::CannotWrite => RunError::CannotWrite,
-            SymbolFileFault::ClosedPipe => RunError::ClosedPipe,
+            SymbolFileError::Refused(error) => RunError::Refused(error),
+            SymbolFileError::NotRead => RunError::NotRead,
+            SymbolFileError::CannotWrite => RunError::CannotWrite,
+            SymbolFileError::ClosedPipe => RunError::ClosedPipe,
         }
     }
 }
 
-impl From<QuestionFault> for RunError {
-    fn from(fault: QuestionFault) -> RunError {
-        RunError::from(SymbolFileFault::from(fault))
+impl From<QuestionError> for RunError {
+    fn from(fault: QuestionError) -> RunError {
+        RunError::from(SymbolFileError::from(fault))
     }
 }
 

@@ -1,4 +1,4 @@
-//! Lines of source files around the places that frames name, each behind its number, as `llvm-symbolizer` shows them.
+//! Lines of source files around the places that frames name, each after its number, as `llvm-symbolizer` shows them.
 
 use crate::file_bytes::read_regular_file;
 use pdb_records_files::ran_out_of_memory;

@@ -10,7 +10,7 @@ use crate::run_errors::RunError;
 use crate::status_line::StatusLine;
 use crate::symbol_stores::{make_place, write_records, write_whole};
 use crate::unwind_records::unwind_records;
-use pdb_breakpad::{ModuleIdentity, ProgramIdentity, SymbolFileFault};
+use pdb_breakpad::{ModuleIdentity, ProgramIdentity, SymbolFileError};
 use pdb_container::PdbIdentity;
 use pdb_session::SessionData;
 use std::alloc::Global;
@@ -91,8 +91,8 @@ fn dump_into_store<R: Files + Print + Eprint + AllocGlobal>(
 ) -> Result<(), RunError> {
     let path = make_place(rt, store, module)?;
     match dump_all(rt, options, Some(path.as_str()), module, data, frames) {
-        Err(SymbolFileFault::CannotWrite) => {
-            Err(RunError::SymbolFile(path, SymbolFileFault::CannotWrite))
+        Err(SymbolFileError::CannotWrite) => {
+            Err(RunError::SymbolFile(path, SymbolFileError::CannotWrite))
         }
         written => Ok(written?),
     }
@@ -106,7 +106,7 @@ fn dump_all<R: Files + Print + Eprint + AllocGlobal>(
     module: &ModuleIdentity<'_>,
     data: &SessionData<'_>,
     frames: &FrameRecords,
-) -> Result<(), SymbolFileFault> {
+) -> Result<(), SymbolFileError> {
     let mut context = data.context(options.flags())?;
     match path {
         Some(path) => write_whole(rt, path, module, &mut context, frames),

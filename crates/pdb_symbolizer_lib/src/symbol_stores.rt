@@ -3,7 +3,7 @@
 use crate::frame_data_records::FrameRecords;
 use crate::paths::file_name;
 use crate::run_errors::RunError;
-use pdb_breakpad::{FrameSource, ModuleIdentity, SymbolFileFault, write_symbol_file};
+use pdb_breakpad::{FrameSource, ModuleIdentity, SymbolFileError, write_symbol_file};
 use std::alloc::{AllocError, Global};
 use std::fs;
 use std::io::{BufWriter, Write};
@@ -18,20 +18,20 @@ pub fn make_place<R: Files + AllocGlobal>(
     let folder = store_folder(rt.alloc(), store, module)?;
     let path = format!(in rt.alloc(); "{folder}/{}.sym", stem(module.pdb_name))?;
     if file_name(module.pdb_name).is_none() || fs::create_dir_all(rt, folder.as_str()).is_err() {
-        return Err(RunError::SymbolFile(path, SymbolFileFault::CannotWrite));
+        return Err(RunError::SymbolFile(path, SymbolFileError::CannotWrite));
     }
     Ok(path)
 }
 
 /// Writes a symbol file that stands at this path once it is whole. Until then it is written beside that, with `.part`
-/// behind its name, and what was written is removed where the writing fails.
+/// after its name, and what was written is removed where the writing fails.
 pub fn write_whole<'a, R: Files + AllocGlobal, S: FrameSource<'a>>(
     rt: &R,
     path: &str,
     module: &ModuleIdentity<'_>,
     source: &mut S,
     frames: &FrameRecords,
-) -> Result<(), SymbolFileFault> {
+) -> Result<(), SymbolFileError> {
     let part = format!(in rt.alloc(); "{path}.part")?;
     let outcome = write_and_rename(rt, part.as_str(), path, module, source, frames);
     if outcome.is_err() {
@@ -47,7 +47,7 @@ fn write_and_rename<'a, R: Files + AllocGlobal, S: FrameSource<'a>>(
     module: &ModuleIdentity<'_>,
     source: &mut S,
     frames: &FrameRecords,
-) -> Result<(), SymbolFileFault> {
+) -> Result<(), SymbolFileError> {
     let mut out = BufWriter::new(rt.alloc(), fs::create(rt, part)?)?;
     write_records(rt.alloc(), &mut out, module, source, frames)?;
     drop(out);
@@ -62,7 +62,7 @@ pub fn write_records<'a, S: FrameSource<'a>, W: Write>(
     module: &ModuleIdentity<'_>,
     source: &mut S,
     frames: &FrameRecords,
-) -> Result<(), SymbolFileFault> {
+) -> Result<(), SymbolFileError> {
     write_symbol_file(alloc, out, module, &frames.parameters, source)?;
     out.write_all(frames.text.as_bytes())?;
     out.flush()?;
@@ -77,7 +77,7 @@ fn store_folder(
     format!(in alloc; "{store}/{}/{}", module.pdb_name, module.debug_id.compact())
 }
 
-// The name without `.pdb` behind it, in letters of either case.
+// The name without `.pdb` after it, in letters of either case.
 fn stem(name: &str) -> &str {
     match name.rsplit_once('.') {
         Some((stem, ending)) if ending.eq_ignore_ascii_case("pdb") => stem,

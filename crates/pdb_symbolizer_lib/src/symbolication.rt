@@ -8,7 +8,9 @@ use crate::status_line::StatusLine;
 use crate::symbolized_modules::texts_of_modules;
 use pdb_addr2line::Error;
 use pdb_records_files::ran_out_of_memory;
-use pdb_symbolication::{RecordFault, Request, WantedModules, error_line, write_answer};
+use pdb_symbolication::{
+    RecordFault, SymbolicationRequest, WantedModules, error_line, write_answer,
+};
 use std::io::{self, BufRead, BufReader, BufWriter, Read};
 use std::rt::Files;
 use std::time::Clock;
@@ -116,7 +118,7 @@ fn answer_text<R: Files + Print + Eprint + AllocGlobal>(
     files: &mut KeptFiles<R::File>,
     text: Vec<u8>,
 ) -> Result<Outcome, RunError> {
-    let request = Request::from_slice(rt.alloc(), &text);
+    let request = SymbolicationRequest::from_slice(rt.alloc(), &text);
     drop(text);
     match request {
         Ok(request) => answer_request(rt, options, files, &request),
@@ -135,7 +137,7 @@ fn answer_request<R: Files + Print + Eprint + AllocGlobal>(
     rt: &R,
     options: &Options<'_>,
     files: &mut KeptFiles<R::File>,
-    request: &Request,
+    request: &SymbolicationRequest,
 ) -> Result<Outcome, RunError> {
     let wanted = WantedModules::of(rt.alloc(), request)?;
     let found = texts_of_modules(rt, options, files, &wanted.modules)?;

@@ -9,7 +9,7 @@ use crate::programs::find_in_folders;
 use crate::run_errors::RunError;
 use pdb_addr2line::{Error, Frame, FunctionFrames};
 use pdb_session::{SessionContext, SessionData};
-use pdb_symbolication::{FoundFunction, FrameText, FrameTexts, Place, WantedModule};
+use pdb_symbolication::{FrameText, FrameTexts, SymbolizedFrame, SymbolizedFunction, WantedModule};
 use std::alloc::{AllocError, Global};
 use std::io::{Read, Seek};
 use std::rt::Files;
@@ -128,20 +128,20 @@ fn text_at(
 fn function_of<'f>(
     alloc: Global,
     found: &'f FunctionFrames<'_>,
-) -> Result<FoundFunction<'f>, AllocError> {
+) -> Result<SymbolizedFunction<'f>, AllocError> {
     let mut places = Vec::new(alloc);
     for frame in &found.frames {
         places.push(place_of(frame))?;
     }
-    Ok(FoundFunction {
+    Ok(SymbolizedFunction {
         start: found.start_rva,
         places,
     })
 }
 
 // What is known of a frame. An empty name counts for none.
-fn place_of<'f>(frame: &'f Frame<'_>) -> Place<'f> {
-    Place {
+fn place_of<'f>(frame: &'f Frame<'_>) -> SymbolizedFrame<'f> {
+    SymbolizedFrame {
         function: match &frame.function {
             Some(name) if !name.is_empty() => Some(name.as_str()),
             _ => None,

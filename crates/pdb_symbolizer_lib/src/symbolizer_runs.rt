@@ -9,7 +9,7 @@ use crate::export_files::write_files;
 use crate::file_answers::answer_file;
 use crate::identities::print_identities;
 use crate::input_files::read_all_records;
-use crate::named_files::answer_named_files;
+use crate::named_file_lines::answer_named_files;
 use crate::options::{Export, Options, Purpose};
 use crate::run_errors::RunError;
 use crate::status_line::StatusLine;

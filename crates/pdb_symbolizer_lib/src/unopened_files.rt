@@ -3,7 +3,7 @@
 use crate::options::Options;
 use crate::outputs::{Output, write_line_answer};
 use crate::run_errors::RunError;
-use pdb_answer_printer::{Place, Request, Sort, Style, write_json_error, write_unknown};
+use pdb_answer_printer::{InputLine, InputTarget, Sort, Style, write_json_error, write_unknown};
 
 /// Ends a run whose file an option names: by why it can't be opened, in JSON as an object.
 pub fn end_unopened<R: Print + Eprint + AllocGlobal, W: Output>(
@@ -17,21 +17,21 @@ pub fn end_unopened<R: Print + Eprint + AllocGlobal, W: Output>(
         cause.print(rt);
         return Ok(());
     }
-    let request = Request {
+    let request = InputLine {
         sort: Sort::Code,
         file: path,
-        place: Place::Address(0),
+        place: InputTarget::Address(0),
     };
     write_error(rt, out, options, &request, cause)
 }
 
-/// Answers the request of a line that names such a file: as unknown behind why it can't be opened, in JSON by an object
+/// Answers the request of a line that names such a file: as unknown after why it can't be opened, in JSON by an object
 /// that says why.
 pub fn answer_unopened<R: Print + Eprint + AllocGlobal, W: Output>(
     rt: &R,
     out: &mut W,
     options: &Options<'_>,
-    request: &Request<'_>,
+    request: &InputLine<'_>,
     cause: &RunError,
 ) -> Result<(), RunError> {
     if options.printer.style == Style::Json {
@@ -47,7 +47,7 @@ fn write_error<R: AllocGlobal, W: Output>(
     rt: &R,
     out: &mut W,
     options: &Options<'_>,
-    request: &Request<'_>,
+    request: &InputLine<'_>,
     cause: &RunError,
 ) -> Result<(), RunError> {
     let why = format!(in rt.alloc(); "{cause}")?;

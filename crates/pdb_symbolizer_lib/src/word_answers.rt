@@ -104,7 +104,7 @@ fn separator(style: Style, first: bool) -> &'static str
     }
 }
 
-// What stands behind the answers to words.
+// What stands after the answers to words.
 fn list_end(style: Style) -> &'static str
     ensures { result.now ≡ list_end style }
 {

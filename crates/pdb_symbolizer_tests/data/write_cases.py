@@ -12,8 +12,8 @@ are also high.pdb, which is broken_parts.pdb with its section at the end of all 
 last function; device.exe and folder.exe, which are other.exe with a device and a folder in place of its PDB file's path;
 and device.json, which is names.json with a device as a module's file. The folders tiers, untold, cased and packed are
 symbol stores, whose files request_cases.py writes. parts_of_other_modules.pdb is that of
-pdb_container_tests. inline_faults.py writes inline_faults.pdb,
-overlapping_sections.py overlapping_sections.pdb, frame_data.py frame_data.pdb, and
+pdb_container_tests. inline_faults.py writes inline_faults.pdb, unread_parts.py the files that it names,
+overlapping_sections.py overlapping_sections.pdb, further_kinds.py further_kinds.pdb, frame_data.py frame_data.pdb, and
 arm64_program.py arm64.exe and arm64.pdb.
 """
 import itertools
@@ -26,12 +26,14 @@ import sys
 
 from arm64_program import arm64_cases
 from frame_data import frame_data_cases
+from further_kinds import further_kind_cases
 from inline_faults import inline_fault_cases
 from overlapping_sections import overlapping_section_cases
 from request_cases import request_cases
 from stack_records import stack_records
 from stacks import procedure_at, stacks, with_arguments
 from symbol_file_texts import symbol_file
+from unread_parts import unread_part_cases
 
 HERE = pathlib.Path(__file__).resolve().parent
 # Three inlined bodies in one another; a function's start; a function of another file; the last byte of one
@@ -524,7 +526,8 @@ def api_cases(folder):
 
 def main(words):
     made = [*llvm_cases(words[0]), *habit_cases(words[0]), *name_cases(), *address_cases(), *program_cases(), *broken_cases(),
-            *module_cases(), *inline_fault_cases(error, ENDED), *overlapping_section_cases(ENDED),
+            *module_cases(), *inline_fault_cases(error, ENDED), *unread_part_cases(error, ENDED),
+            *overlapping_section_cases(ENDED), *further_kind_cases(error, ENDED),
             *frame_data_cases(error, ENDED), *arm64_cases(error, ENDED),
             *identity_cases(), *records_cases(),
             *symbol_file_cases(words[0]), *api_cases(words[0])]

@@ -17,7 +17,7 @@ pub(crate) struct Variable {
     pub text: String,
 }
 
-/// What stands between the name of the variable and its text, and behind the text.
+/// What stands between the name of the variable and its text, and after the text.
 const VARIABLE: &str = "=\"";
 
 const VARIABLE_END: &str = "\" ";

@@ -1,9 +1,9 @@
 //! Runs what `pdb_symbolizer` does over the lines of `cases.txt`, and prints what each run writes.
 //!
 //! A line of `cases.txt` has the words of a command line, in front of them as `NAME="TEXT"` an environment variable, if
-//! any, and behind ` < ` the lines of standard input, with `|` between them; or it is `cat FILE`, of a file that a run
-//! wrote. Printed are the line behind `$ `, what the run writes
-//! on standard output and, each line behind `standard error: `, on standard error, and a line `status N`.
+//! any, and after ` < ` the lines of standard input, with `|` between them; or it is `cat FILE`, of a file that a run
+//! wrote. Printed are the line after `$ `, what the run writes
+//! on standard output and, each line after `standard error: `, on standard error, and a line `status N`.
 //! `write_cases.py` beside the cases says where the wanted texts come from.
 #![tactic(auto)]
 

@@ -18,7 +18,7 @@ pub trait Once<K: Ord + Drop>: Drop {
     ghost fits: { Source → K → Self → Type 0 };
 
     // Only equal keys tie.
-    ghost apart: { IsAntisymmetric K.cmp };
+    ghost antisymmetric: { IsAntisymmetric K.cmp };
 }
 
 /// What was made so far, by its keys.

@@ -105,7 +105,7 @@ pub(crate) fn paint<T: Copy>(
     ensures ordered { IsOrderedFrom 0 segments.new.items }
     ensures state { OnOk result
         ((x : ℕ) → value_at segments.new.items x ≡ painted lo hi value (value_at segments.old.items x) x) }
-    ensures few { length segments.new.items ≤ length segments.old.items + 2 }
+    ensures bound { length segments.new.items ≤ length segments.old.items + 2 }
     ensures empty { hi ≤ lo → IsOk result }
     ensures unchanged { hi ≤ lo → segments.new.items ≡ segments.old.items }
     ensures unchanged_if_refused { OnErr result (segments.new.items ≡ segments.old.items) }

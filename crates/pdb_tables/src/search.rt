@@ -48,7 +48,7 @@ pub fn neighbours_at<T: Copy>(entries: &[T], place: usize, probes: &mut Probes) 
     ensures above { result.above ≡ slice_get entries.now place }
     ensures place { result.place ≡ place }
     ensures no_fewer { probes.old ≤ probes.new }
-    ensures few { probes.new ≤ probes.old + 2 }
+    ensures bound { probes.new ≤ probes.old + 2 }
 {
     probes.tick();
     probes.tick();
@@ -78,7 +78,7 @@ pub fn neighbours_of<T: Keyed>(entries: &[T], key: T::Key, probes: &mut Probes) 
     ensures above { result.above ≡ find (is_above T.Key.cmp T.key_of key) entries.now }
     ensures place { result.place ≡ position_or_len (is_above T.Key.cmp T.key_of key) entries.now }
     ensures no_fewer { probes.old ≤ probes.new }
-    ensures few { probes.new ≤ probes.old + digits (length entries.now) }
+    ensures bound { probes.new ≤ probes.old + digits (length entries.now) }
 {
     let mut from = 0;
     let mut to = entries.len();

@@ -47,10 +47,10 @@ impl<T: Copy> Segments<T> {
     /// over a number gives its value. They may overlap, and be empty.
     ///
     /// Its time grows with n log n for n segments, whatever they are. Answers `AllocError` where memory runs out.
-    pub fn of_painted(alloc: Global, segments: &[Segment<T>]) -> Result<Self, AllocError>
+    pub fn from_overlapping(alloc: Global, segments: &[Segment<T>]) -> Result<Self, AllocError>
         ensures answer { IfOk result (λ table.
             (x : ℕ) → value_at table x ≡ painted_in_turn segments.now None x) }
-        ensures few { IfOk result (λ table. length table ≤ 2 * length segments.now) }
+        ensures bound { IfOk result (λ table. length table ≤ 2 * length segments.now) }
     {
         let segments = painting::painted_in_turn(alloc, segments)?;
         Ok(Segments { segments })
@@ -71,7 +71,7 @@ impl<T: Copy> Segments<T> {
     pub fn paint(&mut self, lo: u64, hi: u64, value: T) -> Result<(), AllocError>
         ensures state { OnOk result
             ((x : ℕ) → value_at self.new x ≡ painted lo hi value (value_at self.old x) x) }
-        ensures few { length self.new ≤ length self.old + 2 }
+        ensures bound { length self.new ≤ length self.old + 2 }
         ensures empty { hi ≤ lo → IsOk result }
         ensures unchanged { hi ≤ lo → self.new ≡ self.old }
         ensures unchanged_if_refused { OnErr result (self.new ≡ self.old) }
@@ -86,7 +86,7 @@ impl<T: Copy> Segments<T> {
     pub fn find(&self, x: u64, probes: &mut Probes) -> Option<T>
         ensures answer { result ≡ value_at self.now x }
         ensures no_fewer { probes.old ≤ probes.new }
-        ensures few { probes.new ≤ probes.old + digits (length self.now) }
+        ensures bound { probes.new ≤ probes.old + digits (length self.now) }
     {
         let segment = neighbours_of(&self.segments, x, probes).up_to?;
         if x < segment.end {

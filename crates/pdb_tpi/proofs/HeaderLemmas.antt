@@ -9,8 +9,8 @@ use Rattle.byteorder.specs.Endian.{little_number}
 use Rattle.pdb_records.specs.declared.error.StreamError.{StreamError}
 use Rattle.pdb_msf.specs.NumberLists.{number}
 use Rattle.pdb_msf.specs.declared.faults.TheConstants.{CUT, POINTS_NOWHERE, UNKNOWN_VERSION}
-use Rattle.pdb_tpi.specs.Header.{header_of, type_header, version_80}
-use Rattle.pdb_tpi.specs.declared.header.TypeHeader.{TypeHeader}
+use Rattle.pdb_tpi.specs.TypeStreamHeader.{header_of, type_header, version_80}
+use Rattle.pdb_tpi.specs.declared.type_stream_header.TypeHeader.{TypeHeader}
 
 -- the header of these numbers, in a stream of this length
 abbrev of_numbers : Bool → ℕ → ℕ → ℕ → ℕ → ℕ → Result TypeHeader StreamError

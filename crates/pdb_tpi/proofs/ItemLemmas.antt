@@ -7,10 +7,10 @@ use Rattle.pdb_records.specs.declared.error.Error.{Error}
 use Rattle.pdb_records.specs.declared.error.StreamError.{StreamError}
 use Rattle.pdb_records.specs.declared.types.Item.{Item}
 use Rattle.pdb_records.specs.declared.types.ItemInformation.{ItemInformation}
-use Rattle.pdb_tpi.specs.Items.{ItemMeaning, TypeList, index_at, item_of, items_from, list_items}
+use Rattle.pdb_tpi.specs.ItemStreams.{ItemMeaning, TypeList, index_at, item_of, items_from, list_items}
 use Rattle.pdb_tpi.specs.TypeRecords.{TypeBytes}
 
--- the items from a position on are the one there, if there is one, and those behind it
+-- the items from a position on are the one there, if there is one, and those after it
 next_item : {A : Type 0} (item : ℕ → TypeBytes → A) (from position : ℕ) (records : List TypeBytes)
     → items_from item from (drop position records)
     ≡ option_to_list (option_map (item from) (slice_get records position))
@@ -35,7 +35,7 @@ one_item_more {A = A} item position records made all before after is pushed was 
     was ∙ ap (λ xs. before ++ xs) next ∙ sym (append_assoc before (option_to_list made) others)
     ∙ ap (λ xs. xs ++ others) (sym pushed)
 
--- behind the last record there are no more items
+-- after the last record there are no more items
 no_items_left : {A : Type 0} (item : ℕ → TypeBytes → A) (position : ℕ) (records : List TypeBytes)
     (all before : List A) → length records ≤ position
     → all ≡ before ++ items_from item position (drop position records) → before ≡ all

@@ -2,9 +2,9 @@
 use Rattle.std.proofs.Common.{◌≡◌, ◌∙◌, ℕ, ◌≤◌, List, drop, length, nat_lt, false, sym, ap, arith}
 use Rattle.std.proofs.lemmas.Grind.{common_steps}
 use Rattle.pdb_msf.specs.NumberLists.{two_byte_number}
-use Rattle.pdb_tpi.specs.Numbers.{numeric_leaf, wide_number}
+use Rattle.pdb_tpi.specs.NumericLeaves.{numeric_leaf, wide_number}
 
--- where the first two bytes are no number below LF_NUMERIC, they are the leaf of the number behind them
+-- where the first two bytes are no number below LF_NUMERIC, they are the leaf of the number after them
 pub leaf_first : (bytes left : List ℕ) (leaf : ℕ) → 2 ≤ length bytes → leaf ≡ two_byte_number bytes
     → left ≡ drop 2 bytes → 0x8000 ≤ leaf → numeric_leaf bytes ≡ wide_number leaf left
 unfolding numeric_leaf

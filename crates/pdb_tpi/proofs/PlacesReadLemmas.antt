@@ -11,11 +11,11 @@ use Rattle.pdb_msf.specs.ItemLists.{all_items}
 use Rattle.pdb_msf.specs.declared.faults.TheConstants.{CUT}
 use Rattle.pdb_dbi.specs.Substreams.{ends_early}
 use Rattle.pdb_tpi.proofs.TypeRecordLemmas.{starts_fault, starts_items, starts_there}
-use Rattle.pdb_tpi.specs.Header.{type_header}
+use Rattle.pdb_tpi.specs.TypeStreamHeader.{type_header}
 use Rattle.pdb_tpi.specs.TypePlaces.{early_end}
 use Rattle.pdb_tpi.specs.TypeRecords.{AreStarts, TypeBytes, next_start, records_at, type_records}
-use Rattle.pdb_tpi.specs.Items.{TypeList, list_behind, type_list}
-use Rattle.pdb_tpi.specs.declared.header.TypeHeader.{TypeHeader}
+use Rattle.pdb_tpi.specs.ItemStreams.{TypeList, list_behind, type_list}
+use Rattle.pdb_tpi.specs.declared.type_stream_header.TypeHeader.{TypeHeader}
 
 -- as many bytes as are wanted, or as there are
 as_many : (left wanted : ℕ) (bytes : List ℕ) → length bytes ≡ left → take (min left wanted) bytes ≡ take wanted bytes
@@ -43,7 +43,7 @@ starts_of records long starts small is read =
       subst (λ (s : Read ℕ). AreStarts s.items records) (sym all) (starts_there records below),
     )
 
--- the list of these records, behind a header
+-- the list of these records, after a header
 abbrev list_of : ℕ → List TypeBytes → Option StreamError → TypeList
 list_of first records fault = record { first = first; records = records; fault = fault }
 

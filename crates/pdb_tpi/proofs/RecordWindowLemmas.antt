@@ -61,7 +61,7 @@ own_length count bytes taken is =
           is ∙ ap (λ n. take n bytes) same
     ]
 
--- what stands behind a place in bytes that were taken
+-- what stands after a place in bytes that were taken
 behind_taken : (skipped count : ℕ) (bytes : List ℕ) → drop skipped (take count bytes)
     ≡ take (count - skipped) (drop skipped bytes)
 behind_taken skipped count bytes =

@@ -9,13 +9,13 @@ use Rattle.pdb_records.specs.declared.types.TypeData.{TypeData}
 use Rattle.pdb_records.specs.declared.types.TypeData.TheVariants as type
 use Rattle.pdb_records.specs.declared.types.TypeIndex.{TypeIndex}
 use Rattle.pdb_msf.specs.declared.faults.TheConstants.{BAD_LENGTH, CUT, POINTS_NOWHERE, UNKNOWN_VERSION}
-use Rattle.pdb_tpi.specs.Header.{type_header}
-use Rattle.pdb_tpi.specs.Ids.{function, id_data, ids_of, member_function, no_ids, string, string_list}
+use Rattle.pdb_tpi.specs.TypeStreamHeader.{type_header}
+use Rattle.pdb_tpi.specs.IdLeaves.{function, id_data, ids_of, member_function, no_ids, string, string_list}
 use Rattle.pdb_tpi.specs.IndexLists.{index_list}
 use Rattle.pdb_tpi.specs.Primitives.{primitive_kinds, primitives}
 use Rattle.pdb_msf.specs.ItemLists.{all_items}
-use Rattle.pdb_tpi.specs.Items.{TypeList, item_at}
-use Rattle.pdb_tpi.specs.Types.{argument_list, modifier, type_data, types, types_of}
+use Rattle.pdb_tpi.specs.ItemStreams.{TypeList, item_at}
+use Rattle.pdb_tpi.specs.TypeLeaves.{argument_list, modifier, type_data, types, types_of}
 
 -- a number below 256, as two bytes and as four
 abbrev short : ℕ → List ℕ
@@ -31,7 +31,7 @@ recorded position = position ∷ 16 ∷ 0 ∷ 0 ∷ []
 abbrev index : ℕ → TypeIndex
 index number = record { 0 = number }
 
--- the header behind Version: HeaderSize, TypeIndexBegin, TypeIndexEnd, TypeRecordBytes, HashStreamIndex,
+-- the header after Version: HeaderSize, TypeIndexBegin, TypeIndexEnd, TypeRecordBytes, HashStreamIndex,
 -- HashAuxStreamIndex, HashKeySize, NumHashBuckets, and the places of three buffers with their lengths
 abbrev behind_version : ℕ → ℕ → List ℕ
 behind_version count size =
@@ -60,9 +60,9 @@ three_types =
       content = Ok (type.Modifier (record { underlying_type = index 0x10; constant = true }));
     }
     ∷ record { index = index 0x1001; content = Ok (type.ArgumentList (index 0x1000 ∷ [])) }
-    ∷ record { index = index 0x1002; content = Err (UnimplementedTypeKind 0x000a) } ∷ []
+    ∷ record { index = index 0x1002; content = Ok (type.Other (codes "VirtualFunctionTableShape")) } ∷ []
 
--- behind the primitives stand the three types
+-- after the primitives stand the three types
 stream_means : types_of (header 3 32 ++ type_bytes)
     ≡ Ok (record { items = record { items = primitives ++ three_types; fault = None } })
 unfolding type_header all_items type_data modifier argument_list index_list
@@ -74,13 +74,13 @@ stream_cut : types_of (header 3 32 ++ take 30 type_bytes)
 unfolding type_header all_items type_data modifier argument_list index_list
 stream_cut = refl
 
--- TypeRecordBytes ends behind the second one, and the stream before that is said to end
+-- TypeRecordBytes ends after the second one, and the stream before that is said to end
 records_cut : types_of (header 3 40 ++ take 24 type_bytes)
     ≡ Ok (record { items = record { items = primitives ++ take 2 three_types; fault = Some CUT } })
 unfolding type_header all_items type_data modifier argument_list index_list
 records_cut = refl
 
--- what stands behind TypeRecordBytes is no record
+-- what stands after TypeRecordBytes is no record
 records_end : types_of (header 2 24 ++ type_bytes)
     ≡ Ok (record { items = record { items = primitives ++ take 2 three_types; fault = None } })
 unfolding type_header all_items type_data modifier argument_list index_list
@@ -92,7 +92,7 @@ no_kind : types_of (header 1 3 ++ 1 ∷ 0 ∷ 5 ∷ [])
 unfolding type_header all_items
 no_kind = refl
 
--- a stream of an older version, one that ends in its header, and one whose records begin behind its end
+-- a stream of an older version, one that ends in its header, and one whose records begin after its end
 older_version : types_of (older_header 3 32 ++ type_bytes) ≡ Err UNKNOWN_VERSION
 unfolding type_header
 older_version = refl
@@ -141,6 +141,21 @@ pointer_to_number : slice_get primitives 292 ≡ Some (record {
 unfolding primitives primitive_kinds
 pointer_to_number = refl
 
+-- T_PVOID, T_VOID in the mode CV_TM_NPTR (1), is std::nullptr_t, and T_32PVOID is a pointer
+null_pointer : slice_get primitives 44 ≡ Some (record {
+  index = index 0x103;
+  content = Ok (type.Enumeration (record { name = codes "std::nullptr_t"; underlying_type = index 0x603 }));
+})
+unfolding primitives primitive_kinds
+null_pointer = refl
+
+pointer_to_nothing : slice_get primitives 173 ≡ Some (record {
+  index = index 0x403;
+  content = Ok (type.Primitive (record { kind = kind.Void; indirection = true }));
+})
+unfolding primitives primitive_kinds
+pointer_to_nothing = refl
+
 -- LF_FUNC_ID: scopeId, which names a scope or is 0, type and name
 function_means : id_data 0x1601 (recorded 2 ++ recorded 7 ++ codes "f" ++ 0 ∷ []) ≡ Ok (id.Function (record {
   scope = Some (record { 0 = 0x1002 });
@@ -173,7 +188,7 @@ strings_mean : id_data 0x1604 (small 2 ++ recorded 0 ++ recorded 1)
 unfolding id_data string_list index_list all_items
 strings_mean = refl
 
--- LF_STRING_ID: id and name, and one whose name has no zero behind it
+-- LF_STRING_ID: id and name, and one whose name has no zero after it
 string_means : id_data 0x1605 (small 0 ++ codes "ns" ++ 0 ∷ []) ≡ Ok (id.String (record { name = codes "ns" }))
 unfolding id_data string
 string_means = refl

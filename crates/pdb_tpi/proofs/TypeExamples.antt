@@ -8,11 +8,12 @@ use Rattle.pdb_records.specs.declared.types.TypeData.TheVariants as type
 use Rattle.pdb_records.specs.declared.types.TypeIndex.{TypeIndex}
 use Rattle.pdb_records.specs.declared.types.Variant.TheVariants.{I8, I16, I32, I64, U16}
 use Rattle.pdb_msf.specs.declared.faults.TheConstants.{BAD_NUMBER, CUT}
-use Rattle.pdb_tpi.specs.Aggregates.{class, enumerate, enumeration, newer_class, newer_union, sized_names, union}
+use Rattle.pdb_tpi.specs.AggregateLeaves.{alias, class, enumerate, enumeration, class2, newer_union}
+use Rattle.pdb_tpi.specs.AggregateLeaves.{sized_names, union}
 use Rattle.pdb_msf.specs.ItemLists.{all_items}
 use Rattle.pdb_tpi.specs.IndexLists.{index_list}
-use Rattle.pdb_tpi.specs.Numbers.{numeric_leaf, size_in}
-use Rattle.pdb_tpi.specs.Types.{argument_list, array, member_function, modifier, pointer, procedure, type_data}
+use Rattle.pdb_tpi.specs.NumericLeaves.{numeric_leaf, size_in}
+use Rattle.pdb_tpi.specs.TypeLeaves.{argument_list, array, dimensioned_array, member_function, modifier, pointer, procedure, type_data}
 
 -- a number below 256, as two bytes and as four
 abbrev short : ℕ → List ℕ
@@ -184,7 +185,7 @@ newer_class_means : type_data 0x1608 newer_class_bytes ≡ Ok (type.Class (recor
   size = 24;
   forward_reference = false;
 }))
-unfolding type_data newer_class sized_names size_in numeric_leaf
+unfolding type_data class2 sized_names size_in numeric_leaf
 newer_class_means = refl
 
 newer_structure_means : type_data 0x1609 newer_class_bytes ≡ Ok (type.Class (record {
@@ -194,12 +195,12 @@ newer_structure_means : type_data 0x1609 newer_class_bytes ≡ Ok (type.Class (r
   size = 24;
   forward_reference = false;
 }))
-unfolding type_data newer_class sized_names size_in numeric_leaf
+unfolding type_data class2 sized_names size_in numeric_leaf
 newer_structure_means = refl
 
--- an interface whose unique name has no zero behind it
+-- an interface whose unique name has no zero after it
 newer_interface_cut : type_data 0x160b (take 29 newer_class_bytes) ≡ Err (Stream CUT)
-unfolding type_data newer_class sized_names size_in numeric_leaf
+unfolding type_data class2 sized_names size_in numeric_leaf
 newer_interface_cut = refl
 
 -- LF_UNION: count, property, field, size and name
@@ -219,7 +220,33 @@ enumeration_means : type_data 0x1507 (short 2 ++ short 0 ++ small 116 ++ recorde
 unfolding type_data enumeration
 enumeration_means = refl
 
--- LF_FIELDLIST, LF_BITFIELD, LF_METHODLIST and LF_VFTABLE, of which nothing more is read, and LF_VTSHAPE
+-- LF_ALIAS: utype T_UINT4 and the name
+abbrev alias_bytes : List ℕ
+alias_bytes = small 117 ++ codes "COLORREF" ++ 0 ∷ []
+
+alias_means : type_data 0x150a alias_bytes
+    ≡ Ok (type.Enumeration (record { name = codes "COLORREF"; underlying_type = index 0x75 }))
+unfolding type_data alias
+alias_means = refl
+
+alias_cut : type_data 0x150a (take 12 alias_bytes) ≡ Err (Stream CUT)
+unfolding type_data alias
+alias_cut = refl
+
+-- LF_DIMARRAY: utype T_REAL32, diminfo and the name
+abbrev dimensioned_bytes : List ℕ
+dimensioned_bytes = small 64 ++ recorded 2 ++ codes "a" ++ 0 ∷ []
+
+dimensioned_means : type_data 0x1508 dimensioned_bytes
+    ≡ Ok (type.Array (record { element_type = index 0x40; first = 0; rest = [] }))
+unfolding type_data dimensioned_array
+dimensioned_means = refl
+
+dimensioned_cut : type_data 0x1508 (take 7 dimensioned_bytes) ≡ Err (Stream CUT)
+unfolding type_data dimensioned_array
+dimensioned_cut = refl
+
+-- LF_FIELDLIST, LF_BITFIELD, LF_METHODLIST, LF_VFTABLE and LF_VTSHAPE, of which nothing more is read, and LF_OEM
 field_list_means : type_data 0x1203 [] ≡ Ok (type.Other (codes "FieldList"))
 unfolding type_data
 field_list_means = refl
@@ -236,7 +263,11 @@ virtual_function_table_means : type_data 0x151d [] ≡ Ok (type.Other (codes "Vi
 unfolding type_data
 virtual_function_table_means = refl
 
-not_implemented : type_data 0x000a (short 1 ++ 5 ∷ []) ≡ Err (UnimplementedTypeKind 0x000a)
+table_shape_means : type_data 0x000a (short 1 ++ 5 ∷ []) ≡ Ok (type.Other (codes "VirtualFunctionTableShape"))
+unfolding type_data
+table_shape_means = refl
+
+not_implemented : type_data 0x100f (small 1) ≡ Err (UnimplementedTypeKind 0x100f)
 unfolding type_data
 not_implemented = refl
 

@@ -45,7 +45,7 @@ record_there places window stream position start at lies same =
     ∙ sym (record_at places stream position
     ∙ ap (option_map (λ place. first_record (drop place (records_in places.records stream)))) at)
 
--- behind the last record there is none
+-- after the last record there is none
 pub none_there : (places : TypePlaces) (window : RecordWindow) (stream : List ℕ) (position : ℕ)
     → slice_get places.starts.items position ≡ None
     → position_shown places window position ≡ slice_get (list_at places stream).records position

@@ -13,7 +13,7 @@ abbrev pub or_error : {T : Type 0} → Result T StreamError → Result T Error
 or_error (Ok content) = Ok content
 or_error (Err fault) = Err (Stream fault)
 
--- what a record says, by the number of its kind, if that has a name, and what stands behind it
+-- what a record says, by the number of its kind, if that has a name, and what stands after it
 abbrev pub content_by : {K T : Type 0} → (ℕ → Option K) → (K → List ℕ → Result T StreamError) → ℕ → List ℕ
     → Result T Error
 content_by kind_of data_of number bytes =

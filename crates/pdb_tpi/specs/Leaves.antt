@@ -2,6 +2,10 @@
 -- LF_.. and CV_PTR_.. are those of cvinfo.h; leaves of the newer layouts have the names that tools give them.
 use Rattle.std.specs.Prelude.{ℕ}
 
+-- the shape of a table of virtual functions
+abbrev pub lf_vtshape : ℕ
+lf_vtshape = 0x000a
+
 -- a type that is constant or volatile
 abbrev pub lf_modifier : ℕ
 lf_modifier = 0x1001
@@ -57,6 +61,14 @@ lf_union = 0x1506
 -- an enumeration
 abbrev pub lf_enum : ℕ
 lf_enum = 0x1507
+
+-- an array whose dimensions a record of their own has
+abbrev pub lf_dimarray : ℕ
+lf_dimarray = 0x1508
+
+-- another name of a type
+abbrev pub lf_alias : ℕ
+lf_alias = 0x150a
 
 -- an interface
 abbrev pub lf_interface : ℕ

@@ -6,8 +6,8 @@ use Rattle.pdb_records.specs.declared.error.StreamError.{StreamError}
 use Rattle.pdb_msf.specs.declared.faults.TheConstants.{CUT}
 use Rattle.pdb_tpi.specs.RecordWindows.{records_in, shown_at}
 use Rattle.pdb_tpi.specs.TypeRecords.{AreStarts, TypeBytes, first_record, record_fault, records_at}
-use Rattle.pdb_tpi.specs.Items.{TypeList, type_list}
-use Rattle.pdb_tpi.specs.Types.{is_definition}
+use Rattle.pdb_tpi.specs.ItemStreams.{TypeList, type_list}
+use Rattle.pdb_tpi.specs.TypeLeaves.{is_definition}
 use Rattle.pdb_tpi.specs.declared.record_window.RecordWindow.{RecordWindow}
 use Rattle.pdb_tpi.specs.declared.type_places.TypePlaces.{TypePlaces}
 

@@ -3,22 +3,22 @@
 //! What each of their bytes means is defined in `specs/`, and each call answers that, or that there was no memory.
 #![tactic(auto)]
 
-mod aggregates;
+mod aggregate_leaves;
 mod contents;
-mod header;
-mod ids;
+mod id_leaves;
 mod index_lists;
-mod items;
-mod numbers;
+mod item_streams;
+mod numeric_leaves;
 mod primitives;
 mod record_window;
+mod type_leaves;
 mod type_names;
 mod type_places;
 mod type_records;
-mod types;
+mod type_stream_header;
 
-pub use ids::no_ids;
-pub use items::ItemIndex;
+pub use id_leaves::no_ids;
+pub use item_streams::ItemIndex;
 pub use primitives::primitive_types;
 pub use record_window::RecordWindow;
 pub use type_places::{TypePlaces, read_items};

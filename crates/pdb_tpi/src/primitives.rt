@@ -1,9 +1,11 @@
 //! The types that every program has without a record, with their kinds of pointers.
 
 ghost use Rattle.std.specs.Prelude.{◌≡◌, ◌++◌, IfOk, OnOk};
-ghost use Rattle.pdb_tpi.specs.Primitives.{primitive, primitives, primitives_in};
+ghost use Rattle.pdb_tpi.specs.Primitives.{null_pointer_type, primitive, primitives, primitives_in, type_of_index};
 
-use pdb_records::{Item, PrimitiveKind, PrimitiveType, TypeData, TypeIndex};
+use pdb_records::{
+    EnumerationType, Item, PrimitiveKind, PrimitiveType, RawString, TypeData, TypeIndex,
+};
 use std::alloc::{AllocError, Global};
 
 /// The types that the compiler brings, by their numbers.
@@ -56,19 +58,26 @@ static PRIMITIVES: [(u8, PrimitiveKind); 43] = [
 /// How many ways there are to point to a primitive, of which the first is not to.
 const MODES: u8 = 8;
 
+/// The index that compilers write for `std::nullptr_t`.
+const NULL_POINTER: u32 = 0x0103;
+
+/// The index of a pointer to void.
+const VOID_POINTER: u32 = 0x0603;
+
 /// All primitives, each with its seven kinds of pointers, under the indices that stand for them everywhere.
 pub fn primitive_types(alloc: Global) -> Result<Vec<Item<TypeIndex, TypeData>>, AllocError>
     ensures { IfOk result (λ items. items.items ≡ primitives) }
 {
     let mut items = Vec::new(alloc);
     for mode in 0..MODES {
-        push_primitives(&PRIMITIVES, mode, &mut items)?;
+        push_primitives(alloc, &PRIMITIVES, mode, &mut items)?;
     }
     Ok(items)
 }
 
 // Appends these primitives in one mode.
 fn push_primitives(
+    alloc: Global,
     kinds: &[(u8, PrimitiveKind)],
     mode: u8,
     items: &mut Vec<Item<TypeIndex, TypeData>>,
@@ -76,20 +85,52 @@ fn push_primitives(
     ensures { OnOk result (items.new.items ≡ items.old.items ++ primitives_in kinds.now mode) }
 {
     for &(number, kind) in kinds {
-        items.push(primitive(mode, number, kind))?;
+        items.push(primitive(alloc, mode, number, kind)?)?;
     }
     Ok(())
 }
 
 // The primitive with this number, in one mode.
-fn primitive(mode: u8, number: u8, kind: PrimitiveKind) -> Item<TypeIndex, TypeData>
-    ensures { result ≡ primitive mode (number, kind) }
+fn primitive(
+    alloc: Global,
+    mode: u8,
+    number: u8,
+    kind: PrimitiveKind,
+) -> Result<Item<TypeIndex, TypeData>, AllocError>
+    ensures { IfOk result (λ item. item ≡ primitive mode (number, kind)) }
 {
-    Item {
-        index: TypeIndex(u32::from(mode) * 256 + u32::from(number)),
-        content: Ok(TypeData::Primitive(PrimitiveType {
-            kind,
-            indirection: mode > 0,
-        })),
+    let index = u32::from(mode) * 256 + u32::from(number);
+    Ok(Item {
+        index: TypeIndex(index),
+        content: Ok(type_of_index(alloc, index, mode, kind)?),
+    })
+}
+
+// The type of an index that stands for a primitive of this kind, in one mode.
+fn type_of_index(
+    alloc: Global,
+    index: u32,
+    mode: u8,
+    kind: PrimitiveKind,
+) -> Result<TypeData, AllocError>
+    ensures { IfOk result (λ read. read ≡ type_of_index index mode kind) }
+{
+    if index == NULL_POINTER {
+        return null_pointer_type(alloc);
     }
+    Ok(TypeData::Primitive(PrimitiveType {
+        kind,
+        indirection: mode > 0,
+    }))
+}
+
+// The type `std::nullptr_t`, as an enumeration of that name: it has the size of a pointer.
+fn null_pointer_type(alloc: Global) -> Result<TypeData, AllocError>
+    ensures { IfOk result (λ read. read ≡ null_pointer_type) }
+{
+    let name = "std::nullptr_t";
+    Ok(TypeData::Enumeration(EnumerationType {
+        name: RawString(Vec::from_slice(alloc, name.as_bytes())?),
+        underlying_type: TypeIndex(VOID_POINTER),
+    }))
 }

@@ -5,7 +5,7 @@ ghost use Rattle.pdb_msf.specs.StreamBlocks.{said_in};
 ghost use Rattle.pdb_tpi.specs.RecordWindows.{SameRecord, Shows, records_in, shown_at};
 ghost use Rattle.pdb_tpi.specs.TypeRecords.{record_len};
 
-use pdb_msf::{Bytes, Source, SourceFault, StreamBlocks, bytes_from};
+use pdb_msf::{Bytes, Source, SourceError, StreamBlocks, bytes_from};
 use std::alloc::Global;
 
 /// How many bytes are read at once where records are read one after the other: so many stay in a processor's cache.
@@ -71,13 +71,13 @@ impl RecordWindow {
         source: &mut S,
         records: &RecordRange,
         place: usize,
-    ) -> Result<(), SourceFault>
+    ) -> Result<(), SourceError>
         ensures shows { IfSome (said_in (S.bytes source.old) records.now.blocks) (λ stream.
             Shows (records_in records.now stream) self.old → Shows (records_in records.now stream) self.new) }
         ensures same { OnOk result (IfSome (said_in (S.bytes source.old) records.now.blocks) (λ stream.
             Shows (records_in records.now stream) self.old
             → SameRecord (shown_at self.new place) (drop place (records_in records.now stream)))) }
-        ensures refused { IfErr result (λ fault. fault ≡ SourceFault.Unreadable
+        ensures refused { IfErr result (λ fault. fault ≡ SourceError.Unreadable
             → S.refuses_from source.old ≤ records.now.blocks.file_length) }
         ensures inputs { S.bytes source.new ≡ S.bytes source.old }
         ensures refusals { S.refuses_from source.new ≡ S.refuses_from source.old }
@@ -110,12 +110,12 @@ impl RecordWindow {
         records: &RecordRange,
         place: usize,
         count: usize,
-    ) -> Result<(), SourceFault>
+    ) -> Result<(), SourceError>
         ensures answer { OnOk result (IfSome (said_in (S.bytes source.old) records.now.blocks) (λ stream.
             self.new.bytes.items ≡ take count (drop place (records_in records.now stream)))) }
         ensures early { OnErr result (self.new.bytes.items ≡ []) }
         ensures place { self.new.from ≡ place }
-        ensures refused { IfErr result (λ fault. fault ≡ SourceFault.Unreadable
+        ensures refused { IfErr result (λ fault. fault ≡ SourceError.Unreadable
             → S.refuses_from source.old ≤ records.now.blocks.file_length) }
         ensures inputs { S.bytes source.new ≡ S.bytes source.old }
         ensures refusals { S.refuses_from source.new ≡ S.refuses_from source.old }

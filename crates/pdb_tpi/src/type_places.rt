@@ -3,19 +3,19 @@
 ghost use Rattle.std.specs.Prelude.{◌≡◌, ◌≤◌, length, slice_get, IfErr, IfOk, IfSome, OnOk};
 ghost use Rattle.pdb_msf.specs.ItemLists.{all_items};
 ghost use Rattle.pdb_msf.specs.StreamBlocks.{said_in};
-ghost use Rattle.pdb_tpi.specs.Header.{type_header};
-ghost use Rattle.pdb_tpi.specs.Items.{index_at, item_at, list_items, stream_items};
+ghost use Rattle.pdb_tpi.specs.TypeStreamHeader.{type_header};
+ghost use Rattle.pdb_tpi.specs.ItemStreams.{index_at, item_at, list_items, stream_items};
 ghost use Rattle.pdb_tpi.specs.RecordWindows.{Shows, records_in};
 ghost use Rattle.pdb_tpi.specs.TypePlaces.{IsListIn, LieIn, defines_at, early_end, list_at, position_shown};
 ghost use Rattle.pdb_tpi.specs.TypeRecords.{next_start};
 
-use crate::aggregates::is_definition;
-use crate::header::{HEADER, TypeHeader, header_of};
-use crate::items::ItemIndex;
+use crate::aggregate_leaves::is_definition;
+use crate::item_streams::ItemIndex;
 use crate::record_window::{RecordRange, RecordWindow};
 use crate::type_records::{TypeRecord, take_record};
+use crate::type_stream_header::{HEADER, TypeHeader, header_of};
 use pdb_msf::faults::CUT;
-use pdb_msf::{Bytes, Source, SourceFault, StreamBlocks, offset_of};
+use pdb_msf::{Bytes, Source, SourceError, StreamBlocks, offset_of};
 use pdb_records::{Item, ItemInformation, Reading, StreamError};
 use std::alloc::Global;
 
@@ -39,11 +39,11 @@ impl TypePlaces {
         alloc: Global,
         source: &mut S,
         blocks: StreamBlocks,
-    ) -> Result<Result<Self, StreamError>, SourceFault>
+    ) -> Result<Result<Self, StreamError>, SourceError>
         ensures answer { IfOk result (λ answer. IfSome (said_in (S.bytes source.old) blocks) (λ stream.
             IsListIn stream answer)) }
         ensures blocks { IfOk result (λ answer. IfOk answer (λ places. places.records.blocks ≡ blocks)) }
-        ensures refused { IfErr result (λ fault. fault ≡ SourceFault.Unreadable
+        ensures refused { IfErr result (λ fault. fault ≡ SourceError.Unreadable
             → S.refuses_from source.old ≤ blocks.file_length) }
         ensures inputs { S.bytes source.new ≡ S.bytes source.old }
         ensures refusals { S.refuses_from source.new ≡ S.refuses_from source.old }
@@ -96,14 +96,14 @@ impl TypePlaces {
         source: &mut S,
         window: &mut RecordWindow,
         position: usize,
-    ) -> Result<bool, SourceFault>
+    ) -> Result<bool, SourceError>
         ensures answer { IfOk result (λ answer. IfSome (said_in (S.bytes source.old) self.now.records.blocks) (λ stream.
             LieIn self.now stream → Shows (records_in self.now.records stream) window.old
             → answer ≡ defines_at (list_at self.now stream) position)) }
         ensures shows { IfSome (said_in (S.bytes source.old) self.now.records.blocks) (λ stream.
             Shows (records_in self.now.records stream) window.old
             → Shows (records_in self.now.records stream) window.new) }
-        ensures refused { IfErr result (λ fault. fault ≡ SourceFault.Unreadable
+        ensures refused { IfErr result (λ fault. fault ≡ SourceError.Unreadable
             → S.refuses_from source.old ≤ self.now.records.blocks.file_length) }
         ensures inputs { S.bytes source.new ≡ S.bytes source.old }
         ensures refusals { S.refuses_from source.new ≡ S.refuses_from source.old }
@@ -120,10 +120,10 @@ impl TypePlaces {
         &self,
         alloc: Global,
         source: &mut S,
-    ) -> Result<ItemInformation<I, I::Data>, SourceFault>
+    ) -> Result<ItemInformation<I, I::Data>, SourceError>
         ensures answer { IfOk result (λ items. IfSome (said_in (S.bytes source.old) self.now.records.blocks) (λ stream.
             LieIn self.now stream → items ≡ list_items I.meaning (list_at self.now stream))) }
-        ensures refused { IfErr result (λ fault. fault ≡ SourceFault.Unreadable
+        ensures refused { IfErr result (λ fault. fault ≡ SourceError.Unreadable
             → S.refuses_from source.old ≤ self.now.records.blocks.file_length) }
         ensures inputs { S.bytes source.new ≡ S.bytes source.old }
         ensures refusals { S.refuses_from source.new ≡ S.refuses_from source.old }
@@ -144,7 +144,7 @@ impl TypePlaces {
         })
     }
 
-    /// The item that the record at a position is, or `None` behind the last one. A record that can't be read is an item
+    /// The item that the record at a position is, or `None` after the last one. A record that can't be read is an item
     /// with an error.
     pub fn item_at<I: ItemIndex, S: Source>(
         &self,
@@ -152,14 +152,14 @@ impl TypePlaces {
         source: &mut S,
         window: &mut RecordWindow,
         position: usize,
-    ) -> Result<Option<Item<I, I::Data>>, SourceFault>
+    ) -> Result<Option<Item<I, I::Data>>, SourceError>
         ensures answer { IfOk result (λ item. IfSome (said_in (S.bytes source.old) self.now.records.blocks) (λ stream.
             LieIn self.now stream → Shows (records_in self.now.records stream) window.old
             → item ≡ item_at I.meaning (list_at self.now stream) position)) }
         ensures shows { IfSome (said_in (S.bytes source.old) self.now.records.blocks) (λ stream.
             Shows (records_in self.now.records stream) window.old
             → Shows (records_in self.now.records stream) window.new) }
-        ensures refused { IfErr result (λ fault. fault ≡ SourceFault.Unreadable
+        ensures refused { IfErr result (λ fault. fault ≡ SourceError.Unreadable
             → S.refuses_from source.old ≤ self.now.records.blocks.file_length) }
         ensures inputs { S.bytes source.new ≡ S.bytes source.old }
         ensures refusals { S.refuses_from source.new ≡ S.refuses_from source.old }
@@ -188,7 +188,7 @@ impl TypePlaces {
         source: &mut S,
         window: &mut RecordWindow,
         position: usize,
-    ) -> Result<(), SourceFault>
+    ) -> Result<(), SourceError>
         ensures shows { IfSome (said_in (S.bytes source.old) self.now.records.blocks) (λ stream.
             Shows (records_in self.now.records stream) window.old
             → Shows (records_in self.now.records stream) window.new) }
@@ -196,7 +196,7 @@ impl TypePlaces {
             LieIn self.now stream → Shows (records_in self.now.records stream) window.old
             → position_shown self.now window.new position
             ≡ slice_get (list_at self.now stream).records position)) }
-        ensures refused { IfErr result (λ fault. fault ≡ SourceFault.Unreadable
+        ensures refused { IfErr result (λ fault. fault ≡ SourceError.Unreadable
             → S.refuses_from source.old ≤ self.now.records.blocks.file_length) }
         ensures inputs { S.bytes source.new ≡ S.bytes source.old }
         ensures refusals { S.refuses_from source.new ≡ S.refuses_from source.old }
@@ -228,10 +228,10 @@ pub fn read_items<I: ItemIndex, S: Source>(
     alloc: Global,
     source: &mut S,
     blocks: StreamBlocks,
-) -> Result<Result<ItemInformation<I, I::Data>, StreamError>, SourceFault>
+) -> Result<Result<ItemInformation<I, I::Data>, StreamError>, SourceError>
     ensures answer { IfOk result (λ items. IfSome (said_in (S.bytes source.old) blocks) (λ stream.
         items ≡ stream_items I.meaning stream)) }
-    ensures refused { IfErr result (λ fault. fault ≡ SourceFault.Unreadable
+    ensures refused { IfErr result (λ fault. fault ≡ SourceError.Unreadable
         → S.refuses_from source.old ≤ blocks.file_length) }
 {
     match TypePlaces::read(alloc, source, blocks)? {
@@ -245,10 +245,10 @@ fn read_front<S: Source>(
     alloc: Global,
     source: &mut S,
     blocks: &StreamBlocks,
-) -> Result<Result<TypeHeader, StreamError>, SourceFault>
+) -> Result<Result<TypeHeader, StreamError>, SourceError>
     ensures answer { IfOk result (λ answer. IfSome (said_in (S.bytes source.old) blocks.now) (λ stream.
         answer ≡ type_header stream)) }
-    ensures refused { IfErr result (λ fault. fault ≡ SourceFault.Unreadable
+    ensures refused { IfErr result (λ fault. fault ≡ SourceError.Unreadable
         → S.refuses_from source.old ≤ blocks.now.file_length) }
     ensures inputs { S.bytes source.new ≡ S.bytes source.old }
     ensures refusals { S.refuses_from source.new ≡ S.refuses_from source.old }
@@ -263,11 +263,11 @@ fn read_starts<S: Source>(
     alloc: Global,
     source: &mut S,
     records: &RecordRange,
-) -> Result<Reading<u32>, SourceFault>
+) -> Result<Reading<u32>, SourceError>
     ensures answer { IfOk result (λ starts. IfSome (said_in (S.bytes source.old) records.now.blocks) (λ stream.
         length (records_in records.now stream) ≡ records.now.length
         → starts ≡ all_items (next_start (length (records_in records.now stream))) (records_in records.now stream))) }
-    ensures refused { IfErr result (λ fault. fault ≡ SourceFault.Unreadable
+    ensures refused { IfErr result (λ fault. fault ≡ SourceError.Unreadable
         → S.refuses_from source.old ≤ records.now.blocks.file_length) }
     ensures inputs { S.bytes source.new ≡ S.bytes source.old }
     ensures refusals { S.refuses_from source.new ≡ S.refuses_from source.old }

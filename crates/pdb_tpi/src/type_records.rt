@@ -12,7 +12,7 @@ use std::marker::Model;
 #[derive(Drop)]
 pub(crate) struct TypeRecord<'a> {
     pub(crate) kind: u16,
-    /// What stands behind the kind.
+    /// What stands after the kind.
     pub(crate) content: &'a [u8],
 }
 

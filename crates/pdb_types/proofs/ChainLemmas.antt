@@ -18,8 +18,8 @@ use Rattle.pdb_types.specs.declared.type_sizes.Step.{Step}
 use Rattle.pdb_types.specs.declared.type_sizes.Step.TheVariants.{Ended, Next}
 use Rattle.pdb_errors.specs.Outcomes.{and_then}
 use Rattle.pdb_types.specs.ReadError.{ReadErrorView, Missing}
-use Rattle.pdb_types.specs.Items.{first_item}
-use Rattle.pdb_types.specs.Reading.{said, entry}
+use Rattle.pdb_types.specs.ItemMap.{first_item}
+use Rattle.pdb_types.specs.ItemReading.{said, entry}
 use Rattle.pdb_types.specs.Resolution.{resolved}
 use Rattle.pdb_types.specs.TypeInputs.{LinkInputs}
 use Rattle.pdb_types.specs.TypeSizes.{no_size, step_after, step, onward, ended, size_along, type_size}

@@ -18,9 +18,9 @@ use Rattle.pdb_records.specs.declared.types.TypeData.{TypeData}
 use Rattle.pdb_types.specs.ForwardReferences.{Aggregate, aggregate, item_aggregate, size_behind, size_for}
 use Rattle.pdb_types.specs.ForwardReferences.{first_definition, entries_behind, referred_name}
 use Rattle.pdb_types.specs.ForwardReferences.{entry_name, forward_size, size_under, Defines, Tabulates}
-use Rattle.pdb_types.specs.Items.{first_item}
+use Rattle.pdb_types.specs.ItemMap.{first_item}
 use Rattle.pdb_types.specs.Resolution.{answered}
-use Rattle.pdb_types.specs.Reading.{said, entry}
+use Rattle.pdb_types.specs.ItemReading.{said, entry}
 use Rattle.pdb_types.specs.TypeSizes.{size_elsewhere}
 
 -- a definition gives its size to its name, and leaves other names what they had

@@ -6,7 +6,7 @@ use Rattle.std.proofs.lemmas.Bool.Decides.{nat_tests}
 use Rattle.pdb_records.specs.Readings.{Read}
 use Rattle.pdb_records.specs.declared.types.Item.{Item}
 use Rattle.pdb_errors.specs.Outcomes.{and_then}
-use Rattle.pdb_types.specs.Reading.{entry, reading}
+use Rattle.pdb_types.specs.ItemReading.{entry, reading}
 use Rattle.pdb_types.specs.Resolution.{resolved}
 use Rattle.pdb_types.specs.TypeInputs.{LinkInputs}
 use Rattle.pdb_types.specs.ReadError.{ReadErrorView}

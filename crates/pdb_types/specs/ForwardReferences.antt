@@ -13,7 +13,7 @@ use Rattle.pdb_records.specs.declared.types.TypeIndex.{TypeIndex}
 use Rattle.pdb_records.specs.declared.types.TypeData.{TypeData}
 use Rattle.pdb_records.specs.declared.types.TypeData.TheVariants.{Class, Union}
 use Rattle.pdb_types.specs.declared.aggregates.Aggregate as code
-use Rattle.pdb_types.specs.Items.{first_item}
+use Rattle.pdb_types.specs.ItemMap.{first_item}
 
 -- what a class or a union says of itself: what it goes by, its size, and whether it is a forward reference
 pub record Aggregate : Type 0 where

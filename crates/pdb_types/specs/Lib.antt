@@ -4,13 +4,13 @@ pub mod ReadError
 pub mod FailedParts
 pub mod Ascending
 pub mod CachedEntries
-pub mod Items
+pub mod ItemMap
 pub mod Sizes
 pub mod ForwardReferences
 pub mod ModuleNames
 pub mod TypeInputs
 pub mod Resolution
-pub mod Reading
+pub mod ItemReading
 pub mod TypeSizes
 pub mod SizeLaws
 pub mod TypeCache

@@ -7,14 +7,14 @@ use Rattle.std.specs.Ordering.{nat_cmp, ordering_then}
 use Rattle.std.specs.declared.cmp.Ordering.{Ordering}
 use Rattle.pdb_tables.specs.OnceMap.{HoldsOfEach}
 use Rattle.pdb_types.specs.declared.type_cache.TypeCache.{TypeCache}
-use Rattle.pdb_types.specs.declared.type_cache.Asked.{Asked}
+use Rattle.pdb_types.specs.declared.type_cache.SizeQuestion.{SizeQuestion}
 use Rattle.pdb_types.specs.declared.type_cache.NamedModule.{NamedModule}
 use Rattle.pdb_types.specs.declared.type_sizes.TypeSize.{TypeSize}
 use Rattle.pdb_types.specs.ForwardReferences.{Tabulates}
 use Rattle.pdb_errors.specs.Outcomes.{and_then}
 use Rattle.pdb_types.specs.Resolution.{texts, module_under, exports}
 use Rattle.pdb_types.specs.TypeInputs.{TypeInputs, LinkInputs, link_inputs}
-use Rattle.pdb_errors.specs.Provided.{ProviderInfos}
+use Rattle.pdb_records.specs.Provided.{ProviderInfos}
 use Rattle.pdb_types.specs.TypeSizes.{size_of}
 
 -- this is the module whose name stands under a reference
@@ -28,17 +28,17 @@ abbrev pub AreExportsOf : LinkInputs → ℕ → List (ℕ × ℕ) → Type 0
 AreExportsOf link module_index list = exports link module_index ≡ Ok list
 
 -- the order of questions: by the module index of the module that asks, and then by the index
-abbrev pub asked_cmp : Asked → Asked → Ordering
-asked_cmp a b = ordering_then (nat_cmp a.module_index b.module_index) (nat_cmp a.index b.index)
+abbrev pub size_question_cmp : SizeQuestion → SizeQuestion → Ordering
+size_question_cmp a b = ordering_then (nat_cmp a.module_index b.module_index) (nat_cmp a.index b.index)
 
 -- only equal questions tie
-pub asked_cmp-apart : IsAntisymmetric asked_cmp
-asked_cmp-apart a b tied =
+pub size_question_cmp-IsAntisymmetric : IsAntisymmetric size_question_cmp
+size_question_cmp-IsAntisymmetric a b tied =
     ap (λ asked. record { module_index = asked.0; index = asked.1 })
     (exact_pairs nat_cmp nat_cmp exact_unsigned exact_unsigned (a.module_index, a.index) (b.module_index, b.index) tied)
 
 -- this is the size that was asked for
-abbrev pub IsSizeOf : (ℕ → ℕ → TypeSize) → Asked → TypeSize → Type 0
+abbrev pub IsSizeOf : (ℕ → ℕ → TypeSize) → SizeQuestion → TypeSize → Type 0
 IsSizeOf size_of asked size = size_of asked.module_index asked.index ≡ size
 
 -- a type cache is a cache of type inputs: what was found so far is what the records say
@@ -48,7 +48,7 @@ pub record IsCacheOf {P : Type 0} (info : P → ProviderInfos) (inputs : TypeInp
   pub named : HoldsOfEach nat_cmp (IsModuleUnder (link_inputs info inputs)) cache.named.made
   pub exports : HoldsOfEach nat_cmp (AreExportsOf (link_inputs info inputs)) cache.exports.made
   pub forward : IfSome cache.forward_sizes (Tabulates inputs.types.items)
-  pub sizes : HoldsOfEach asked_cmp (IsSizeOf (size_of info inputs)) cache.sizes.made
+  pub sizes : HoldsOfEach size_question_cmp (IsSizeOf (size_of info inputs)) cache.sizes.made
 
 -- the type cache is still what the records say, and no part of them failed anew
 pub record IsCacheAfter {P : Type 0} (info : P → ProviderInfos) (inputs : TypeInputs P) (old new : TypeCache) : Type 0

@@ -13,7 +13,7 @@ use Rattle.pdb_records.specs.declared.debug_information.MachineType.{MachineType
 use Rattle.pdb_records.specs.declared.debug_information.Module.{Module}
 use Rattle.pdb_errors.specs.declared.error.Error.{Error}
 use Rattle.pdb_errors.specs.declared.error.Error.TheVariants.{PdbError}
-use Rattle.pdb_errors.specs.Provided.{ProviderInfos}
+use Rattle.pdb_records.specs.Provided.{ProviderInfos}
 use Rattle.pdb_types.specs.declared.flags.TypeFormatterFlags.{TypeFormatterFlags}
 use Rattle.pdb_types.specs.Sizes.{pointer_size}
 

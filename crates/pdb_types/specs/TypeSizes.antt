@@ -11,10 +11,10 @@ use Rattle.pdb_types.specs.declared.type_sizes.TypeSize.{TypeSize}
 use Rattle.pdb_types.specs.declared.type_sizes.Step.{Step}
 use Rattle.pdb_types.specs.declared.type_sizes.Step.TheVariants.{Ended, Next}
 use Rattle.pdb_types.specs.ForwardReferences.{Aggregate, aggregate, size_behind}
-use Rattle.pdb_types.specs.Reading.{reading}
+use Rattle.pdb_types.specs.ItemReading.{reading}
 use Rattle.pdb_types.specs.Sizes.{own_size, underneath}
 use Rattle.pdb_types.specs.TypeInputs.{LinkInputs, TypeInputs, link_inputs}
-use Rattle.pdb_errors.specs.Provided.{ProviderInfos}
+use Rattle.pdb_records.specs.Provided.{ProviderInfos}
 use Rattle.pdb_types.specs.ReadError.{ReadErrorView, Broken}
 
 -- the type of an index, asked by the module at a module index, with the number that the index stands for

@@ -40,7 +40,7 @@ impl Once<usize> for ExportTable<'_> {
 
     ghost fits = { AreExportsOf };
 
-    ghost apart = { nat_cmp-IsAntisymmetric };
+    ghost antisymmetric = { nat_cmp-IsAntisymmetric };
 }
 
 impl Drop for ExportTable<'_> {

@@ -6,7 +6,7 @@ ghost use Rattle.pdb_errors.specs.declared.error.Error.TheVariants.{OutOfMemory}
 ghost use Rattle.pdb_types.specs.ForwardReferences.{definition_size, size_behind};
 
 use crate::aggregates::item_aggregate;
-use crate::items::TypeMap;
+use crate::item_map::TypeMap;
 use pdb_errors::Result;
 use pdb_records::{Item, RawString, TypeData, TypeIndex};
 

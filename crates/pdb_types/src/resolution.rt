@@ -14,9 +14,10 @@ use crate::read_error::{Part, ReadError};
 use crate::texts::Texts;
 use crate::type_cache::{NamedModule, TypeCache};
 use crate::type_inputs::TypeInputs;
-use pdb_errors::{Error, ModuleProvider, Result};
+use pdb_errors::{Error, Result};
 use pdb_records::{
-    CrossModuleExports, CrossModuleImports, ModuleInfo, RawString, StreamError, StringRef,
+    CrossModuleExports, CrossModuleImports, ModuleInfo, ModuleProvider, RawString, StreamError,
+    StringRef,
 };
 
 // The bit that marks an index that leads to another module.

@@ -4,13 +4,13 @@ ghost use Rattle.std.specs.Prelude.{◌≡◌, ℕ, [], None};
 ghost use Rattle.std.specs.FinMap.{nat_cmp-IsAntisymmetric};
 ghost use Rattle.std.specs.Ordering.{nat_cmp};
 ghost use Rattle.pdb_tables.specs.OnceMap.{HoldsOfEach};
-ghost use Rattle.pdb_types.specs.TypeCache.{IsModuleUnder, AreExportsOf, asked_cmp, asked_cmp-apart, IsSizeOf};
+ghost use Rattle.pdb_types.specs.TypeCache.{IsModuleUnder, AreExportsOf, size_question_cmp, size_question_cmp-IsAntisymmetric, IsSizeOf};
 ghost use Rattle.pdb_types.specs.TypeInputs.{LinkInputs};
 ghost use Rattle.pdb_types.specs.declared.type_sizes.TypeSize.{TypeSize};
 
 use crate::exports::ExportTable;
 use crate::failed_parts::FailedParts;
-use crate::items::{IdMap, ItemMap, TypeMap};
+use crate::item_map::{IdMap, ItemMap, TypeMap};
 use crate::type_sizes::TypeSize;
 use pdb_records::{IdInformation, TypeInformation};
 use pdb_tables::{Once, OnceMap};
@@ -19,18 +19,18 @@ use std::collections::BTreeMap;
 
 // A question for a size: the module index of the module that asks, and the index as it writes it.
 #[derive(Clone, Copy, PartialEq, Eq, PartialOrd, Ord)]
-pub struct Asked {
+pub struct SizeQuestion {
     pub(crate) module_index: usize,
     pub(crate) index: u32,
 }
 
 // It is found once for each question.
-impl Once<Asked> for TypeSize {
+impl Once<SizeQuestion> for TypeSize {
     ghost Source = { ℕ → ℕ → TypeSize };
 
     ghost fits = { IsSizeOf };
 
-    ghost apart = { asked_cmp-apart };
+    ghost antisymmetric = { size_question_cmp-IsAntisymmetric };
 }
 
 // The module index of a module.
@@ -43,7 +43,7 @@ impl Once<u32> for NamedModule {
 
     ghost fits = { IsModuleUnder };
 
-    ghost apart = { nat_cmp-IsAntisymmetric };
+    ghost antisymmetric = { nat_cmp-IsAntisymmetric };
 }
 
 /// The type cache: what was found of the records so far. It grows, and is asked before the records are read again.
@@ -61,7 +61,7 @@ pub struct TypeCache<'a> {
     // The sizes of forward references, by their numbers: of all of them, or nothing yet.
     pub(crate) forward_sizes: Option<BTreeMap<u32, u64>>,
     // Sizes of types.
-    pub(crate) sizes: OnceMap<Asked, TypeSize>,
+    pub(crate) sizes: OnceMap<SizeQuestion, TypeSize>,
     /// The parts of the records that were met broken.
     pub failed: FailedParts,
 }
@@ -88,7 +88,7 @@ impl<'a> TypeCache<'a> {
         ensures named { (link : LinkInputs) → HoldsOfEach nat_cmp (IsModuleUnder link) result.named.made }
         ensures exports { (link : LinkInputs) → HoldsOfEach nat_cmp (AreExportsOf link) result.exports.made }
         ensures forward { result.forward_sizes ≡ None }
-        ensures sizes { (size_of : ℕ → ℕ → TypeSize) → HoldsOfEach asked_cmp (IsSizeOf size_of) result.sizes.made }
+        ensures sizes { (size_of : ℕ → ℕ → TypeSize) → HoldsOfEach size_question_cmp (IsSizeOf size_of) result.sizes.made }
         ensures failed { result.failed ≡ [] }
     {
         TypeCache {

@@ -14,9 +14,10 @@ use crate::read_error::Part;
 use crate::sizes::pointer_size;
 use crate::texts::Texts;
 use crate::type_cache::TypeCache;
-use pdb_errors::{Error, ModuleProvider, Result};
+use pdb_errors::{Error, Result};
 use pdb_records::{
-    DebugInformation, IdInformation, MachineType, Module, StreamError, StringTable, TypeInformation,
+    DebugInformation, IdInformation, MachineType, Module, ModuleProvider, StreamError, StringTable,
+    TypeInformation,
 };
 use std::alloc::{AllocError, Global};
 use std::marker::Model;
@@ -168,7 +169,7 @@ impl<'a, P: ModuleProvider> TypeInputs<'a, P> {
 
     /// What a part that is met broken answers: its own error where it is new, and then it is remembered,
     /// else that it failed before. Answers `AllocError` where memory runs out, and the failed parts stay.
-    pub fn ask(
+    pub fn fail(
         &self,
         cache: &mut TypeCache<'a>,
         part: Part,
@@ -180,6 +181,6 @@ impl<'a, P: ModuleProvider> TypeInputs<'a, P> {
         ensures failed { OnOk result (cache.new.failed ≡ with_part cache.old.failed part) }
         ensures unchanged_if_refused { OnErr result (cache.new.failed ≡ cache.old.failed) }
     {
-        cache.failed.ask(part, error)
+        cache.failed.fail(part, error)
     }
 }

@@ -6,7 +6,7 @@ ghost use Rattle.std.specs.BTreeSet.{contains};
 ghost use Rattle.std.specs.Ordering.{nat_cmp};
 ghost use Rattle.pdb_errors.specs.declared.error.Error.TheVariants.{OutOfMemory};
 ghost use Rattle.pdb_types.specs.ForwardReferences.{forward_size};
-ghost use Rattle.pdb_types.specs.Reading.{entry};
+ghost use Rattle.pdb_types.specs.ItemReading.{entry};
 ghost use Rattle.pdb_types.specs.TypeInputs.{link_inputs};
 ghost use Rattle.pdb_types.specs.TypeSizes.{end_size, step, size_of};
 ghost use Rattle.pdb_types.specs.TypeCache.{IsCacheOf, IsCacheAfter};
@@ -15,10 +15,10 @@ use crate::aggregates::aggregate_of;
 use crate::forward_sizes::{forward_sizes, size_at};
 use crate::read_error::{Part, ReadError};
 use crate::sizes::{own_size, underneath};
-use crate::type_cache::{Asked, TypeCache};
+use crate::type_cache::{SizeQuestion, TypeCache};
 use crate::type_inputs::TypeInputs;
-use pdb_errors::{Error, ModuleProvider, Result};
-use pdb_records::{TypeData, TypeIndex};
+use pdb_errors::{Error, Result};
+use pdb_records::{ModuleProvider, TypeData, TypeIndex};
 use std::collections::BTreeSet;
 
 /// A size in bytes, and the part of the records that was met broken on the way to it.
@@ -135,7 +135,7 @@ impl<'a, P: ModuleProvider> TypeInputs<'a, P> {
         let mut index = index;
         'chain: loop {
             let number = index.0;
-            let asked = Asked {
+            let asked = SizeQuestion {
                 module_index,
                 index: number,
             };
@@ -153,7 +153,12 @@ impl<'a, P: ModuleProvider> TypeInputs<'a, P> {
     }
 
     // Caches the size of a type that was asked for.
-    fn cache_size(&self, cache: &mut TypeCache<'a>, asked: Asked, size: TypeSize) -> Result<()>
+    fn cache_size(
+        &self,
+        cache: &mut TypeCache<'a>,
+        asked: SizeQuestion,
+        size: TypeSize,
+    ) -> Result<()>
         requires is_cache { IsCacheOf P.info self.now cache.old }
         requires size { size_of P.info self.now asked.module_index asked.index ≡ size }
         ensures memory { IfErr result (λ e. e ≡ OutOfMemory) }
@@ -177,7 +182,7 @@ impl<'a, P: ModuleProvider> TypeInputs<'a, P> {
         ensures state { IsCacheAfter P.info self.now cache.old cache.new }
     {
         for index in passed {
-            let asked = Asked {
+            let asked = SizeQuestion {
                 module_index,
                 index: *index,
             };

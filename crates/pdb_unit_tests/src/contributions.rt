@@ -79,7 +79,7 @@ static COUNTED: [Given; 3] = [
     (1, 0xffff_fff0, 0xffff_ffff, 4),
 ];
 
-/// The debug information that holds these contributions, with this fault behind them.
+/// The debug information that holds these contributions, with this fault after them.
 fn debug_information(
     alloc: Global,
     given: &[Given],
@@ -169,7 +169,7 @@ fn is_overlap(alloc: Global, given: &[Given]) -> bool {
     )
 }
 
-/// Whether contributions of which two overlap are refused for the fault behind them.
+/// Whether contributions of which two overlap are refused for the fault after them.
 fn is_fault_first(alloc: Global) -> Result<bool> {
     let fault = StreamError(9);
     let given = [(1, 0, 0x20, 0), (1, 0x10, 0x20, 1)];
@@ -178,7 +178,7 @@ fn is_fault_first(alloc: Global) -> Result<bool> {
     Ok(merged.is_err_and(|error| is_fault(&error, fault)))
 }
 
-/// Three thousand contributions, one behind the other, each of another module.
+/// Three thousand contributions, one after the other, each of another module.
 fn side_by_side(alloc: Global) -> Result<Vec<Given>, AllocError> {
     let mut given = Vec::new(alloc);
     for at in 0..3000u32 {
@@ -206,7 +206,7 @@ fn finds_thousands(alloc: Global) -> Result<bool> {
     Ok(starts.len() == 3000 && is_table_of_thousands(&table))
 }
 
-/// Three thousand public symbols, one behind the other.
+/// Three thousand public symbols, one after the other.
 fn publics(alloc: Global) -> Result<Vec<Symbol>, AllocError> {
     let mut symbols = Vec::new(alloc);
     for at in 0..3000u32 {
@@ -221,7 +221,7 @@ fn publics(alloc: Global) -> Result<Vec<Symbol>, AllocError> {
     Ok(symbols)
 }
 
-/// Whether a function is found over, at and behind a section offset.
+/// Whether a function is found over, at and after a section offset.
 fn finds_functions(functions: &GlobalFunctionTable<'_>) -> bool {
     let probes = &mut Probes::new();
     let over = functions.function_over(section_offset(1, 0x1f), &mut 0, probes);

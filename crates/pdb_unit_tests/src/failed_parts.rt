@@ -13,7 +13,7 @@ fn fails_with(
     part: Part,
     wanted: &str,
 ) -> Result<bool, AllocError> {
-    let error = failed.ask(part, Error::from(StreamError(9)))?;
+    let error = failed.fail(part, Error::from(StreamError(9)))?;
     let text = format!(in alloc; "{error}")?;
     Ok(text.as_str() == wanted && failed.has_failed(part))
 }

@@ -26,7 +26,7 @@ const S_END: u16 = 6;
 /// A range: its start and end, its depth, the id of what was called, its file and its line.
 type Range = (u64, u64, usize, u32, Option<FileIndex>, Option<u32>);
 
-/// Rows of a site that has another inside, the fault behind them, and the ranges that come of both sites.
+/// Rows of a site that has another inside, the fault after them, and the ranges that come of both sites.
 type Gap<'a> = (&'a [Row], Option<StreamError>, &'a [Range]);
 
 /// The rows of most sites.
@@ -35,7 +35,7 @@ const ONE_ROW: &[Row] = &[(0x20, Some(0x10), 0, 7)];
 /// A row of the same code, of another line.
 const LATER_LINE: &[Row] = &[(0x20, Some(0x10), 0, 9)];
 
-/// A row that ends behind the greatest offset, and one without a length.
+/// A row that ends after the greatest offset, and one without a length.
 const LONG_ROWS: &[Row] = &[(0xffff_fff0, Some(0x20), 1, 3), (0x50, None, 1, 4)];
 
 /// A row of other code.
@@ -143,7 +143,7 @@ fn are_filled(alloc: Global, gap: &Gap<'_>) -> bool {
     has_ranges(alloc, &symbols, None, wanted)
 }
 
-/// A procedure with a site that has another inside, and a site behind it.
+/// A procedure with a site that has another inside, and a site after it.
 static INSIDE_AND_BEHIND: [Shown<'static>; 8] = [
     (S_GPROC32, Content::Procedure(7)),
     (S_INLINESITE, Content::Site(A, 4, &[], None)),
@@ -208,7 +208,7 @@ static ROWS_OF_MIXED_KINDS: [Range; 2] = [
     (0x20, 0x30, 1, B, Some(FileIndex(0)), Some(7)),
 ];
 
-/// A fault behind the symbols.
+/// A fault after the symbols.
 const FAULT: StreamError = StreamError(4);
 
 /// A procedure that the symbols before the fault close, with another inside.
@@ -218,7 +218,7 @@ static CLOSED: [Shown<'static>; 3] = [
     OTHER,
 ];
 
-/// A procedure that would be closed behind the fault, with another inside.
+/// A procedure that would be closed after the fault, with another inside.
 static UNCLOSED: [Shown<'static>; 3] = [
     (S_GPROC32, Content::Procedure(10)),
     (S_GPROC32, Content::Procedure(9)),

@@ -40,7 +40,7 @@ static OVER_SEVERAL: [Over<'static>; 11] = [
 /// Ranges of one depth, two of which start together.
 static EQUAL_STARTS: [Range; 3] = [(0x10, 0x20, 0), (0x10, 0x30, 0), (0x8, 0x40, 0)];
 
-/// What is over offsets in and behind those.
+/// What is over offsets in and after those.
 static OVER_EQUAL_STARTS: [Over<'static>; 4] = [
     (0x8, &[2]),
     (0x10, &[0]),

@@ -18,7 +18,7 @@ static CLASSES: [(u32, &str, u64); 5] = [
     (0x1000, "S", 40),
 ];
 
-/// An index, a name, and the size of what has that name behind the index.
+/// An index, a name, and the size of what has that name after the index.
 type Size<'a> = (u32, &'a str, Option<u64>);
 
 /// Sizes, one for each way in which the look-up can end.
@@ -34,7 +34,7 @@ fn raw_string(alloc: Global, text: &str) -> Result<RawString, AllocError> {
     Ok(RawString(Vec::from_slice(alloc, text.as_bytes())?))
 }
 
-/// A list with one string under the index 7, and this fault behind it.
+/// A list with one string under the index 7, and this fault after it.
 fn ids(alloc: Global, fault: Option<StreamError>) -> Result<IdInformation, AllocError> {
     let name = raw_string(alloc, "text")?;
     let mut items = Vec::new(alloc);
@@ -86,7 +86,7 @@ fn list_answers(
     Ok(answers(alloc, &mut map, wanted)? && answers(alloc, &mut map, wanted)?)
 }
 
-/// Whether the public look-up answers this size for a name behind an index.
+/// Whether the public look-up answers this size for a name after an index.
 fn has_size(alloc: Global, types: &TypeInformation, size: &Size<'_>) -> Result<bool> {
     let &(index, name, wanted) = size;
     let name = raw_string(alloc, name)?;
@@ -116,7 +116,7 @@ fn class(
     })
 }
 
-/// Types with a forward reference to `S` and definitions of it behind.
+/// Types with a forward reference to `S` and definitions of it after.
 fn types(alloc: Global) -> Result<TypeInformation, AllocError> {
     let mut items = Vec::new(alloc);
     for &(index, name, size) in &CLASSES {

@@ -4,7 +4,7 @@ use pdb_errors::Error;
 use pdb_records::{ModuleInfo, Reading, StreamError, Symbol};
 use std::alloc::Global;
 
-/// A module with these symbols, this fault behind them, and nothing else.
+/// A module with these symbols, this fault after them, and nothing else.
 pub(crate) fn module_of(
     alloc: Global,
     symbols: Vec<Symbol>,

@@ -4,7 +4,7 @@ use crate::checks::Checks;
 use crate::modules::{is_fault, module_of};
 use pdb_errors::Result;
 use pdb_functions::{
-    BasicModuleInfo, FoundFunction, GlobalFunction, ModuleSectionContribution,
+    BasicModuleInfo, FunctionMatch, GlobalFunction, ModuleSectionContribution,
     ProcedureSymbolFunction, global_function_in,
 };
 use pdb_records::{
@@ -129,7 +129,7 @@ fn has_procedures(alloc: Global) -> Result<bool> {
     )
 }
 
-/// Whether a module is refused for the fault behind its symbols.
+/// Whether a module is refused for the fault after its symbols.
 fn is_refused(alloc: Global) -> bool {
     let fault = StreamError(3);
     let info = module_of(alloc, Vec::new(alloc), Some(fault));
@@ -146,7 +146,7 @@ fn descending(alloc: Global) -> Result<Vec<Code<'static>>, AllocError> {
 }
 
 /// What a global function that starts at an offset is in the contribution of module 5 from 0x10 on.
-fn found_from(offset: u32) -> Option<FoundFunction<'static>> {
+fn found_from(offset: u32) -> Option<FunctionMatch<'static>> {
     let contribution = ModuleSectionContribution {
         section_index: 1,
         start_offset: 0x10,
@@ -177,7 +177,13 @@ fn finds_thousands(alloc: Global) -> Result<bool> {
 
 /// Whether the global function of a contribution that starts at an offset is one of module 5.
 fn is_found_from(offset: u32) -> bool {
-    matches!(found_from(offset), Some(FoundFunction::Global(5, _, _)))
+    matches!(
+        found_from(offset),
+        Some(FunctionMatch::Global {
+            module_index: 5,
+            ..
+        })
+    )
 }
 
 /// The checks of procedures, and of the global function of a contribution.

@@ -4,7 +4,7 @@ use crate::checks::Checks;
 use pdb_tables::RangeSet;
 use std::alloc::{AllocError, Global};
 
-/// A range: its start, and its end behind it.
+/// A range: its start, and its end after it.
 type Range = (u64, u64);
 
 /// Ranges of which some overlap, some touch and some are empty, and at last one of the greatest numbers.
@@ -60,7 +60,7 @@ fn gives_back(set: &mut RangeSet, inner: &RangeSet) -> bool {
     set.minus(inner).is_ok() && set.runs() == REST.as_slice()
 }
 
-/// Three thousand ranges of two numbers from this number on, each four behind the one before.
+/// Three thousand ranges of two numbers from this number on, each four after the one before.
 fn thousands_from(alloc: Global, first: u64) -> Result<RangeSet, AllocError> {
     let mut set = RangeSet::empty(alloc);
     for at in 0..3000u64 {
@@ -70,7 +70,7 @@ fn thousands_from(alloc: Global, first: u64) -> Result<RangeSet, AllocError> {
     Ok(set)
 }
 
-/// Whether these are three thousand ranges of one number, each four behind the one before.
+/// Whether these are three thousand ranges of one number, each four after the one before.
 fn are_thousands_of_one(runs: &[Range]) -> bool {
     let mut start: u64 = 0;
     for &run in runs {

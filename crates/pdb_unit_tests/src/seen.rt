@@ -2,9 +2,9 @@
 
 use crate::checks::Checks;
 use crate::errors::says;
-use pdb_documents::seen::{Seen, SeenError};
 use pdb_errors::Error;
 use pdb_records::TypeIndex;
+use pdb_type_texts::seen::{Seen, SeenError};
 use std::alloc::Global;
 use std::collections::BTreeSet;
 

@@ -100,7 +100,7 @@ fn looks(entries: usize, x: u64) -> u64 {
     64
 }
 
-/// A thousand ranges of two numbers, each four behind the one before and with its position as the value.
+/// A thousand ranges of two numbers, each four after the one before and with its position as the value.
 fn spaced(alloc: Global) -> Result<Segments<u64>, AllocError> {
     let mut table = Segments::new(alloc);
     for at in 0..1000u64 {
@@ -137,7 +137,7 @@ fn painted_at_once(alloc: Global, painted: &[Painted]) -> Result<Segments<u64>, 
     for &(start, end, value) in painted {
         segments.push(Segment { start, end, value })?;
     }
-    Segments::of_painted(alloc, &segments)
+    Segments::from_overlapping(alloc, &segments)
 }
 
 /// Whether two tables have the same values up to a number.

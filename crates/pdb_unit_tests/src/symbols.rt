@@ -19,7 +19,7 @@ pub(crate) enum Content<'a> {
     Other,
     /// A procedure: the position of the symbol that closes it.
     Procedure(usize),
-    /// A site: its id, the position of the symbol that closes it, its rows, and the fault behind them.
+    /// A site: its id, the position of the symbol that closes it, its rows, and the fault after them.
     Site(u32, usize, &'a [Row], Option<StreamError>),
 }
 

@@ -13,7 +13,7 @@ use Rattle.pe_unwind.specs.declared.registers.Register.TheVariants.{Rax, Rcx, Rd
 use Rattle.pe_unwind.specs.declared.registers.Register.TheVariants.{R11, R12, R13, R14, R15}
 use Rattle.pe_unwind.proofs.PopLemmas.{all_pops, no_pop_more}
 use Rattle.pe_unwind.specs.declared.rules.Unwound.{Unwound}
-use Rattle.pe_unwind.specs.declared.unwind_info.Frame.{Frame}
+use Rattle.pe_unwind.specs.declared.unwind_info.FrameRegister.{FrameRegister}
 
 -- there are 16 registers
 index_small : (r : Register) → index r < 16
@@ -78,12 +78,12 @@ no_way_out function code other =
     ) refl
 
 -- no instruction gives the frame back
-nothing_given_back : (frame : Option Frame) (code : List ℕ) → Other code
+nothing_given_back : (frame : Option FrameRegister) (code : List ℕ) → Other code
     → stack_restored frame code ≡ record { stack = stack_top; size = 0 }
 nothing_given_back frame code other =
     rw (no_add_of_a_byte code other, no_add_of_a_number code other) (by_frame frame)
   where
-    by_frame : (frame : Option Frame) → lea_if frame code ≡ record { stack = stack_top; size = 0 }
+    by_frame : (frame : Option FrameRegister) → lea_if frame code ≡ record { stack = stack_top; size = 0 }
     by_frame None = refl
     by_frame (Some frame) =
         rw (

@@ -9,34 +9,34 @@ use Rattle.pe_unwind.specs.Registers.{index}
 use Rattle.pe_unwind.specs.Rules.{Function}
 use Rattle.pe_unwind.specs.UnwindCodes.{unwind_codes}
 use Rattle.pe_unwind.specs.UnwindInfo.{Info, info_in}
-use Rattle.pe_unwind.specs.declared.cfi_records.Found.TheVariants.{At}
-use Rattle.pe_unwind.specs.declared.cfi_records.Item.TheVariants.{CfaItem, RegisterItem}
-use Rattle.pe_unwind.specs.declared.faults.Refusal.TheVariants.{CodesCut, InfoOutsideOfImage, UnknownCode}
-use Rattle.pe_unwind.specs.declared.faults.Refusal.TheVariants.{UnknownVersion}
+use Rattle.pe_unwind.specs.declared.cfi_records.RegisterRule.TheVariants.{At}
+use Rattle.pe_unwind.specs.declared.cfi_records.CfiItem.TheVariants.{CfaItem, RegisterItem}
+use Rattle.pe_unwind.specs.declared.unwind_errors.EntryError.TheVariants.{CodesCut, InfoOutsideOfImage, UnknownCode}
+use Rattle.pe_unwind.specs.declared.unwind_errors.EntryError.TheVariants.{UnknownVersion}
 use Rattle.pe_unwind.specs.declared.registers.Register.{Register}
 use Rattle.pe_unwind.specs.declared.registers.Register.TheVariants.{Rbp, Rbx, Rsi, Rsp, R12, R14}
 use Rattle.pe_unwind.specs.declared.rules.Cfa.TheVariants.{Loaded, Sum}
-use Rattle.pe_unwind.specs.declared.rules.Place.{Place}
+use Rattle.pe_unwind.specs.declared.rules.RegisterOffset.{RegisterOffset}
 use Rattle.pe_unwind.specs.declared.rules.Rules.{Rules}
 use Rattle.pe_unwind.specs.declared.unwind_codes.Operation.TheVariants.{Allocate, Epilogue, MachineFrame, Push, Save}
 use Rattle.pe_unwind.specs.declared.unwind_codes.Operation.TheVariants.{SetFrame, Unseen}
 
 -- a place above the stack pointer, and one above rbp
-abbrev stack : ℕ → Place
+abbrev stack : ℕ → RegisterOffset
 stack offset = record { register = Rsp; offset = offset }
 
-abbrev rbp : ℕ → Place
+abbrev rbp : ℕ → RegisterOffset
 rbp offset = record { register = Rbp; offset = offset }
 
 -- registers saved at places
-abbrev none : List (Option Place)
+abbrev none : List (Option RegisterOffset)
 none = replicate 16 None
 
-abbrev saved : Register → Place → List (Option Place) → List (Option Place)
+abbrev saved : Register → RegisterOffset → List (Option RegisterOffset) → List (Option RegisterOffset)
 saved register place others = slice_set others (index register) (Some place)
 
 -- rules with the return address at a place, and the caller's stack pointer above it
-abbrev rules_at : Register → ℕ → List (Option Place) → Rules
+abbrev rules_at : Register → ℕ → List (Option RegisterOffset) → Rules
 rules_at register offset registers = record {
   cfa = Sum (record { register = register; offset = offset + 8 });
   return_address = record { register = register; offset = offset };

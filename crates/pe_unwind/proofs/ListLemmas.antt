@@ -5,22 +5,22 @@ use Rattle.std.proofs.Common.{Option, Result, Ok, Err, refl, ap, sym, ◌∙◌,
 use Rattle.std.proofs.lemmas.Grind.{common_steps}
 use Rattle.std.specs.Prelude.{is_some}
 use Rattle.pe_image.specs.Image.{Program}
-use Rattle.pe_unwind.specs.Faults.{Fails, behind}
+use Rattle.pe_unwind.specs.UnwindErrors.{Fails, behind}
 use Rattle.pe_unwind.specs.UnwindCodes.{codes_up_to, first_code}
 use Rattle.pe_unwind.specs.UnwindInfo.{Info, info_at, parents_of, parents_up_to}
-use Rattle.pe_unwind.specs.declared.faults.Refusal.{Refusal}
-use Rattle.pe_unwind.specs.declared.faults.Refusal.TheVariants.{ChainTooLong}
-use Rattle.pe_unwind.specs.declared.faults.UnwindFault.{UnwindFault}
-use Rattle.pe_unwind.specs.declared.faults.UnwindFault.TheVariants.{OutOfMemory, Refused}
+use Rattle.pe_unwind.specs.declared.unwind_errors.EntryError.{EntryError}
+use Rattle.pe_unwind.specs.declared.unwind_errors.EntryError.TheVariants.{ChainTooLong}
+use Rattle.pe_unwind.specs.declared.unwind_errors.UnwindError.{UnwindError}
+use Rattle.pe_unwind.specs.declared.unwind_errors.UnwindError.TheVariants.{OutOfMemory, Refused}
 use Rattle.pe_unwind.specs.declared.unwind_codes.UnwindCode.{UnwindCode}
 
 -- behind no items is what is read
-pub behind_nothing : {A : Type 0} (read : Result (List A) Refusal) → behind [] read ≡ read
+pub behind_nothing : {A : Type 0} (read : Result (List A) EntryError) → behind [] read ≡ read
 behind_nothing (Ok items) = refl
 behind_nothing (Err refusal) = refl
 
 -- behind items that were read in two steps is what is read behind the second
-pub behind_behind : {A : Type 0} (xs ys : List A) (read : Result (List A) Refusal)
+pub behind_behind : {A : Type 0} (xs ys : List A) (read : Result (List A) EntryError)
     → behind (xs ++ ys) read ≡ behind xs (behind ys read)
 behind_behind xs ys (Ok items) = rw append_assoc refl
 behind_behind xs ys (Err refusal) = refl
@@ -31,7 +31,7 @@ one_left count counter some = omega arith
 
 -- with the next code read, the codes are still those that were read and those that are left
 pub one_code_more : (version count counter : ℕ) (rest next : List ℕ) (code : UnwindCode)
-    (all : Result (List UnwindCode) Refusal) (before after : List UnwindCode) → counter < count → 0 < length rest
+    (all : Result (List UnwindCode) EntryError) (before after : List UnwindCode) → counter < count → 0 < length rest
     → first_code version rest ≡ Ok (code, next) → after ≡ before ++ code ∷ []
     → all ≡ behind before (codes_up_to (count - counter) version rest)
     → all ≡ behind after (codes_up_to (count - (counter + 1)) version next)
@@ -45,8 +45,8 @@ one_code_more version count counter rest next code all before after some there i
     ∙ ap (λ codes. behind codes (codes_up_to (count - (counter + 1)) version next)) (sym pushed)
 
 -- a code that is refused refuses all
-pub refused_code : (version count counter : ℕ) (rest : List ℕ) (refusal : Refusal)
-    (all : Result (List UnwindCode) Refusal) (before : List UnwindCode) → counter < count → 0 < length rest
+pub refused_code : (version count counter : ℕ) (rest : List ℕ) (refusal : EntryError)
+    (all : Result (List UnwindCode) EntryError) (before : List UnwindCode) → counter < count → 0 < length rest
     → first_code version rest ≡ Err refusal
     → all ≡ behind before (codes_up_to (count - counter) version rest)
     → all ≡ Err refusal
@@ -62,15 +62,15 @@ no_codes_left zero version rest none = refl
 no_codes_left (suc count) version rest none = simp none
 
 -- where no codes are left, those that were read are all
-pub all_codes : (all : Result (List UnwindCode) Refusal) (before : List UnwindCode)
-    (left : Result (List UnwindCode) Refusal) → left ≡ Ok [] → all ≡ behind before left → all ≡ Ok before
+pub all_codes : (all : Result (List UnwindCode) EntryError) (before : List UnwindCode)
+    (left : Result (List UnwindCode) EntryError) → left ≡ Ok [] → all ≡ behind before left → all ≡ Ok before
 all_codes all before left none was =
     let nothing : behind before (Ok []) ≡ Ok before = rw append-nil refl in
     was ∙ ap (behind before) none ∙ nothing
 
 -- a call that fails as an earlier one did, where a refusal of that one is a refusal of all
-pub fails_onward : {A B : Type 0} (fault : UnwindFault) (first : Result A Refusal) (all : Result B Refusal)
-    → ((refusal : Refusal) → first ≡ Err refusal → all ≡ Err refusal) → Fails fault first → Fails fault all
+pub fails_onward : {A B : Type 0} (fault : UnwindError) (first : Result A EntryError) (all : Result B EntryError)
+    → ((refusal : EntryError) → first ≡ Err refusal → all ≡ Err refusal) → Fails fault first → Fails fault all
 fails_onward (Refused refusal) first all onward is = onward refusal is
 fails_onward OutOfMemory first all onward is = tt
 
@@ -82,7 +82,7 @@ unread_parents program parent = rw behind_nothing refl
 
 -- with the next parent read, the parents are still those that were read and those that are left
 pub one_parent_more : (program : Program) (count counter rva : ℕ) (info : Info)
-    (all : Result (List Info) Refusal) (before after : List Info) → counter < count
+    (all : Result (List Info) EntryError) (before after : List Info) → counter < count
     → info_at program rva ≡ Ok info → after ≡ before ++ info ∷ []
     → all ≡ behind before (parents_up_to (count - counter) program (Some rva))
     → all ≡ behind after (parents_up_to (count - (counter + 1)) program info.parent)
@@ -95,8 +95,8 @@ one_parent_more program count counter rva info all before after some is pushed w
     ∙ ap (λ infos. behind infos (parents_up_to (count - (counter + 1)) program info.parent)) (sym pushed)
 
 -- a parent that is refused refuses all
-pub refused_parent : (program : Program) (count counter rva : ℕ) (refusal : Refusal)
-    (all : Result (List Info) Refusal) (before : List Info) → counter < count → info_at program rva ≡ Err refusal
+pub refused_parent : (program : Program) (count counter rva : ℕ) (refusal : EntryError)
+    (all : Result (List Info) EntryError) (before : List Info) → counter < count → info_at program rva ≡ Err refusal
     → all ≡ behind before (parents_up_to (count - counter) program (Some rva)) → all ≡ Err refusal
 refused_parent program count counter rva refusal all before some is was =
     let more : count - counter ≡ suc (count - (counter + 1)) = one_left count counter some in
@@ -104,7 +104,7 @@ refused_parent program count counter rva refusal all before some is was =
     was ∙ ap (λ n. behind before (parents_up_to n program (Some rva))) more ∙ ap (behind before) read
 
 -- where there is a parent that may not be read any more, there are too many
-pub too_many_parents : (program : Program) (next : Option ℕ) (all : Result (List Info) Refusal) (before : List Info)
+pub too_many_parents : (program : Program) (next : Option ℕ) (all : Result (List Info) EntryError) (before : List Info)
     → is_some next ≡ true → all ≡ behind before (parents_up_to 0 program next) → all ≡ Err ChainTooLong
 too_many_parents program None all before some was = cc
 too_many_parents program (Some rva) all before some was = was

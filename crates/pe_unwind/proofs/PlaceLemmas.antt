@@ -3,17 +3,17 @@ use Rattle.std.proofs.Common.{◌≡◌, ◌<◌, ◌^◌, ℕ, Bool, true, fals
 use Rattle.pe_unwind.proofs.RecordLemmas.{register_sound}
 use Rattle.pe_unwind.specs.CfiRecords.{CfaFits, place_by, place_known, same_register}
 use Rattle.pe_unwind.specs.Rules.{less}
-use Rattle.pe_unwind.specs.declared.cfi_records.Found.TheVariants.{At, BelowCfa}
+use Rattle.pe_unwind.specs.declared.cfi_records.RegisterRule.TheVariants.{At, BelowCfa}
 use Rattle.pe_unwind.specs.declared.rules.Cfa.{Cfa}
 use Rattle.pe_unwind.specs.declared.rules.Cfa.TheVariants.{Loaded, Sum}
-use Rattle.pe_unwind.specs.declared.rules.Place.{Place}
+use Rattle.pe_unwind.specs.declared.rules.RegisterOffset.{RegisterOffset}
 
 -- what is so far below an address as another is that other
 less_less : (a b : ℕ) → a < 2 ^ 64 → b < 2 ^ 64 → less a (less a b) ≡ b
 less_less a b a_fits b_fits = omega arith
 
 -- a record keeps a place
-pub place_kept : (cfa : Cfa) (place : Place) → CfaFits cfa → place.offset < 2 ^ 64
+pub place_kept : (cfa : Cfa) (place : RegisterOffset) → CfaFits cfa → place.offset < 2 ^ 64
     → place_known cfa (place_by cfa place) ≡ Some place
 place_kept (Loaded top) place fits place_fits = refl
 place_kept (Sum top) place fits place_fits = by_test (same_register top.register place.register) refl

@@ -13,17 +13,17 @@ use Rattle.pe_unwind.specs.CfiRecords.{register_items, same_cfa, same_found, sam
 use Rattle.pe_unwind.specs.Functions.{FunctionCode, rule_at}
 use Rattle.pe_unwind.specs.Registers.{index, register}
 use Rattle.pe_unwind.specs.declared.cfi_lines.CfiLine.{CfiLine}
-use Rattle.pe_unwind.specs.declared.cfi_records.Found.{Found}
-use Rattle.pe_unwind.specs.declared.cfi_records.Found.TheVariants.{At, BelowCfa, Unchanged}
-use Rattle.pe_unwind.specs.declared.cfi_records.Item.{Item}
-use Rattle.pe_unwind.specs.declared.cfi_records.Item.TheVariants.{CfaItem, RegisterItem, ReturnItem}
-use Rattle.pe_unwind.specs.declared.faults.Refusal.{Refusal}
+use Rattle.pe_unwind.specs.declared.cfi_records.RegisterRule.{RegisterRule}
+use Rattle.pe_unwind.specs.declared.cfi_records.RegisterRule.TheVariants.{At, BelowCfa, Unchanged}
+use Rattle.pe_unwind.specs.declared.cfi_records.CfiItem.{CfiItem}
+use Rattle.pe_unwind.specs.declared.cfi_records.CfiItem.TheVariants.{CfaItem, RegisterItem, ReturnItem}
+use Rattle.pe_unwind.specs.declared.unwind_errors.EntryError.{EntryError}
 use Rattle.pe_unwind.specs.declared.registers.Register.{Register}
 use Rattle.pe_unwind.specs.declared.registers.Register.TheVariants.{Rax, Rcx, Rdx, Rbx, Rsp, Rbp, Rsi, Rdi}
 use Rattle.pe_unwind.specs.declared.registers.Register.TheVariants.{R8, R9, R10, R11, R12, R13, R14, R15}
 use Rattle.pe_unwind.specs.declared.rules.Cfa.{Cfa}
 use Rattle.pe_unwind.specs.declared.rules.Cfa.TheVariants.{Loaded, Sum}
-use Rattle.pe_unwind.specs.declared.rules.Place.{Place}
+use Rattle.pe_unwind.specs.declared.rules.RegisterOffset.{RegisterOffset}
 use Rattle.pe_unwind.specs.declared.rules.Rules.{Rules}
 
 -- the register with a register's number is that register
@@ -80,7 +80,7 @@ pub register_sound : (a b : Register) → same_register a b ≡ true → a ≡ b
 register_sound a b is =
     sym (register-index a) ∙ ap register (same_number (index a) (index b) is) ∙ register-index b
 
-place_sound : (a b : Place) → same_place a b ≡ true → a ≡ b
+place_sound : (a b : RegisterOffset) → same_place a b ≡ true → a ≡ b
 place_sound a b is =
     let parts = both (same_register a.register b.register) (a.offset == b.offset) is in
     let first : a ≡ record b { offset = a.offset }
@@ -93,7 +93,7 @@ cfa_sound (Sum a) (Loaded b) is = cc
 cfa_sound (Loaded a) (Sum b) is = cc
 cfa_sound (Loaded a) (Loaded b) is = ap Loaded (place_sound a b is)
 
-found_sound : (a b : Found) → same_found a b ≡ true → a ≡ b
+found_sound : (a b : RegisterRule) → same_found a b ≡ true → a ≡ b
 found_sound Unchanged Unchanged is = refl
 found_sound Unchanged (BelowCfa b) is = cc
 found_sound Unchanged (At b) is = cc
@@ -105,24 +105,24 @@ found_sound (At a) (BelowCfa b) is = cc
 found_sound (At a) (At b) is = ap At (place_sound a b is)
 
 -- items one after the other
-items_read-append : (xs ys : List Item) (known : Written)
+items_read-append : (xs ys : List CfiItem) (known : Written)
     → items_read (xs ++ ys) known ≡ items_read ys (items_read xs known)
 items_read-append [] ys known = refl
 items_read-append (x ∷ xs) ys known = items_read-append xs ys (item_read x known)
 
 -- a write at the place behind the front of a list
-set_behind : (front rest : List Found) (old new : Found)
+set_behind : (front rest : List RegisterRule) (old new : RegisterRule)
     → slice_set (front ++ old ∷ rest) (length front) new ≡ front ++ new ∷ rest
 set_behind [] rest old new = refl
 set_behind (x ∷ front) rest old new = ap (λ xs. x ∷ xs) (set_behind front rest old new)
 
 -- one register more behind the front
-one_more : (front rest : List Found) (x : Found) → front ++ x ∷ rest ≡ (front ++ x ∷ []) ++ rest
+one_more : (front rest : List RegisterRule) (x : RegisterRule) → front ++ x ∷ rest ≡ (front ++ x ∷ []) ++ rest
 one_more [] rest x = refl
 one_more (y ∷ front) rest x = ap (λ xs. y ∷ xs) (one_more front rest x)
 
 -- behind the items of the registers that change, all are known
-registers_read : (n : ℕ) (known : Written) (front olds news : List Found) → length front ≡ n
+registers_read : (n : ℕ) (known : Written) (front olds news : List RegisterRule) → length front ≡ n
     → length olds ≡ length news → n + length olds ≡ 16
     → items_read (register_items n olds news) (record known { registers = front ++ olds })
     ≡ record known { registers = front ++ news }
@@ -135,7 +135,7 @@ registers_read n known front (old ∷ olds) (new ∷ news) at same sum =
     (omega arith) (omega arith))
   where
     by_test : (t : Bool) → same_found old new ≡ t
-        → ((x : Found) → items_read (register_items (n + 1) olds news)
+        → ((x : RegisterRule) → items_read (register_items (n + 1) olds news)
         (record known { registers = (front ++ x ∷ []) ++ olds })
         ≡ record known { registers = (front ++ x ∷ []) ++ news })
         → items_read (if_changed t (RegisterItem (register n) new) ++ register_items (n + 1) olds news)
@@ -164,7 +164,7 @@ cfa_read known cfa = by_test (same_cfa known.cfa cfa) refl
     by_test false is = refl
 
 -- behind the item of the return address, if it changes, it is known
-return_read : (known : Written) (found : Found)
+return_read : (known : Written) (found : RegisterRule)
     → items_read (if_changed (same_found known.return_address found) (ReturnItem found)) known
     ≡ record known { return_address = found }
 return_read known found = by_test (same_found known.return_address found) refl
@@ -282,7 +282,7 @@ whole-append [] line is whole = (whole, tt)
 whole-append (first ∷ lines) line is whole = (is.0, whole-append lines line is.1 whole)
 
 -- where lines show a function's rules, records let a reader know them
-pub let_know : (lines : List CfiLine) (before : ℕ) (found : Result FunctionCode Refusal) → Ascend lines before
+pub let_know : (lines : List CfiLine) (before : ℕ) (found : Result FunctionCode EntryError) → Ascend lines before
     → AreWhole lines → Show lines found → LetKnow (records lines) found
 let_know lines before (Ok f) up whole shows =
     λ offset less. records_known lines before offset (rule_at f.function f.code offset) up whole (shows offset less)

@@ -9,10 +9,10 @@ use Rattle.pe_unwind.specs.Functions.{epilogue_at, may_leave, rule_at}
 use Rattle.pe_unwind.specs.ListedEpilogues.{listed_rules}
 use Rattle.pe_unwind.specs.Rules.{Function, at_first, body_rules, code_undone, codes_undone, is_set_frame, next_counted}
 use Rattle.pe_unwind.specs.Rules.{next_step, parents_undone, prologue_offset, rules_of, sets_frame, sooner, start_once, undone}
-use Rattle.pe_unwind.specs.declared.rules.Place.{Place}
+use Rattle.pe_unwind.specs.declared.rules.RegisterOffset.{RegisterOffset}
 use Rattle.pe_unwind.specs.declared.rules.Unwound.{Unwound}
 use Rattle.pe_unwind.specs.declared.unwind_codes.UnwindCode.{UnwindCode}
-use Rattle.pe_unwind.specs.declared.unwind_info.Frame.{Frame}
+use Rattle.pe_unwind.specs.declared.unwind_info.FrameRegister.{FrameRegister}
 
 sooner_within : (offset from end : ℕ) → sooner offset from end ≤ end
 sooner_within offset from end = grind (arith, nat_tests)
@@ -46,7 +46,7 @@ first_counts code codes offset end at behind less =
     sooner_counts offset code.offset end at behind (omega (arith, within, less))
 
 -- before the next offset codes undo what they do at the first one
-same_undone : (frame : Option Frame) (start : Place) (codes : List UnwindCode) (offset end at : ℕ) (u : Unwound)
+same_undone : (frame : Option FrameRegister) (start : RegisterOffset) (codes : List UnwindCode) (offset end at : ℕ) (u : Unwound)
     → offset ≤ at → at < next_counted offset end codes
     → codes_undone frame start (Some at) codes u ≡ codes_undone frame start (Some offset) codes u
 same_undone frame start [] offset end at u behind less = refl

@@ -3,7 +3,7 @@ use Rattle.std.specs.Prelude.{◌≡◌, ℕ, ◌<◌, nat_le, List, [], ◌∷�
 use Rattle.std.specs.Prelude.{Result, Ok, Err, if◌then◌else◌}
 use Rattle.std.specs.Option.{option_or}
 use Rattle.pe_unwind.specs.Functions.{FunctionCode, rule_at}
-use Rattle.pe_unwind.specs.declared.faults.Refusal.{Refusal}
+use Rattle.pe_unwind.specs.declared.unwind_errors.EntryError.{EntryError}
 use Rattle.pe_unwind.specs.declared.cfi_lines.CfiLine.{CfiLine}
 use Rattle.pe_unwind.specs.declared.rules.Rules.{Rules}
 
@@ -23,6 +23,6 @@ Ascend (line ∷ []) before = line.offset < before
 Ascend (line ∷ next ∷ lines) before = (line.offset < next.offset) × Ascend (next ∷ lines) before
 
 -- lines show at each offset of a function the rules that the function has there; they show none that is refused
-abbrev pub Show : List CfiLine → Result FunctionCode Refusal → Type 0
+abbrev pub Show : List CfiLine → Result FunctionCode EntryError → Type 0
 Show lines (Ok f) = (offset : ℕ) → offset < length f.code → shown lines offset ≡ Some (rule_at f.function f.code offset)
 Show lines (Err refusal) = ⊥

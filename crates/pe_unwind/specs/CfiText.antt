@@ -8,17 +8,17 @@ use Rattle.pe_unwind.specs.CfiLines.{Ascend}
 use Rattle.pe_unwind.specs.CfiRecords.{LetKnow, first_items, later_items, records, written}
 use Rattle.pe_unwind.specs.Functions.{FunctionCode}
 use Rattle.pe_unwind.specs.declared.cfi_lines.CfiLine.{CfiLine}
-use Rattle.pe_unwind.specs.declared.cfi_records.Found.{Found}
-use Rattle.pe_unwind.specs.declared.cfi_records.Found.TheVariants.{At, BelowCfa, Unchanged}
-use Rattle.pe_unwind.specs.declared.cfi_records.Item.{Item}
-use Rattle.pe_unwind.specs.declared.cfi_records.Item.TheVariants.{CfaItem, RegisterItem, ReturnItem}
-use Rattle.pe_unwind.specs.declared.faults.Refusal.{Refusal}
+use Rattle.pe_unwind.specs.declared.cfi_records.RegisterRule.{RegisterRule}
+use Rattle.pe_unwind.specs.declared.cfi_records.RegisterRule.TheVariants.{At, BelowCfa, Unchanged}
+use Rattle.pe_unwind.specs.declared.cfi_records.CfiItem.{CfiItem}
+use Rattle.pe_unwind.specs.declared.cfi_records.CfiItem.TheVariants.{CfaItem, RegisterItem, ReturnItem}
+use Rattle.pe_unwind.specs.declared.unwind_errors.EntryError.{EntryError}
 use Rattle.pe_unwind.specs.declared.registers.Register.{Register}
 use Rattle.pe_unwind.specs.declared.registers.Register.TheVariants.{Rax, Rcx, Rdx, Rbx, Rsp, Rbp, Rsi, Rdi}
 use Rattle.pe_unwind.specs.declared.registers.Register.TheVariants.{R8, R9, R10, R11, R12, R13, R14, R15}
 use Rattle.pe_unwind.specs.declared.rules.Cfa.{Cfa}
 use Rattle.pe_unwind.specs.declared.rules.Cfa.TheVariants.{Loaded, Sum}
-use Rattle.pe_unwind.specs.declared.rules.Place.{Place}
+use Rattle.pe_unwind.specs.declared.rules.RegisterOffset.{RegisterOffset}
 use Rattle.pe_unwind.specs.declared.rules.Rules.{Rules}
 
 -- a register as Breakpad writes it
@@ -50,7 +50,7 @@ signed_decimal number =
     if nat_lt number (2 ^ 63) then decimal number else codes "-" ++ decimal (2 ^ 64 - number)
 
 -- the address of a place
-abbrev pub place_text : Place → List ℕ
+abbrev pub place_text : RegisterOffset → List ℕ
 place_text place = name place.register ++ (codes " " ++ (signed_decimal place.offset ++ codes " +"))
 
 -- how the caller's stack pointer is found
@@ -59,13 +59,13 @@ cfa_text (Sum place) = place_text place
 cfa_text (Loaded place) = place_text place ++ codes " ^"
 
 -- how the return address or a register is found, by its own name
-abbrev pub found_text : List ℕ → Found → List ℕ
+abbrev pub found_text : List ℕ → RegisterRule → List ℕ
 found_text own Unchanged = own
 found_text own (BelowCfa bytes) = codes ".cfa " ++ (signed_decimal bytes ++ codes " - ^")
 found_text own (At place) = place_text place ++ codes " ^"
 
 -- an item: a space, a name, a colon, and how this is found
-unfoldable pub item_text : Item → List ℕ
+unfoldable pub item_text : CfiItem → List ℕ
 item_text (CfaItem cfa) = codes " .cfa: " ++ cfa_text cfa
 item_text (ReturnItem found) = codes " .ra: " ++ found_text (codes ".ra") found
 item_text (RegisterItem register found) =
@@ -97,7 +97,7 @@ function_text begin end (line ∷ lines) =
 
 -- a text has the records of an entry's function at its end: those of lines that ascend within the function, and that let
 -- a reader know the function's rules
-abbrev pub ShowText : List ℕ → List ℕ → FunctionEntry → Result FunctionCode Refusal → Type 0
+abbrev pub ShowText : List ℕ → List ℕ → FunctionEntry → Result FunctionCode EntryError → Type 0
 ShowText old new entry found = (lines : List CfiLine)
     × (new ≡ old ++ function_text entry.begin entry.end lines)
     × Ascend lines (entry.end - entry.begin)

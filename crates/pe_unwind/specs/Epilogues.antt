@@ -10,7 +10,7 @@ use Rattle.pe_unwind.specs.declared.epilogues.Restored.{Restored}
 use Rattle.pe_unwind.specs.declared.epilogues.Pop.{Pop}
 use Rattle.pe_unwind.specs.declared.rules.Rules.{Rules}
 use Rattle.pe_unwind.specs.declared.rules.Unwound.{Unwound}
-use Rattle.pe_unwind.specs.declared.unwind_info.Frame.{Frame}
+use Rattle.pe_unwind.specs.declared.unwind_info.FrameRegister.{FrameRegister}
 
 -- a number of one byte with a sign: a negative one as its two's complement in 64 bits
 abbrev pub signed_byte : ℕ → ℕ
@@ -43,7 +43,7 @@ leas number mode size code = not (number % 8 == 4)
     && begins_with (0x48 + number / 8) 0x8d size code && (slice_index code 2 == mode * 64 + 0x20 + number % 8)
 
 -- the stack pointer behind a lea by a frame register, and the bytes behind it
-abbrev pub lea_by : Frame → List ℕ → Restored
+abbrev pub lea_by : FrameRegister → List ℕ → Restored
 lea_by frame code =
     if leas (index frame.register) 1 4 code then record {
       stack = record { register = frame.register; offset = signed_byte (slice_index code 3) };
@@ -54,13 +54,13 @@ lea_by frame code =
     } else record { stack = stack_top; size = 0 }
 
 -- the same, if the function has a frame register
-abbrev pub lea_if : Option Frame → List ℕ → Restored
+abbrev pub lea_if : Option FrameRegister → List ℕ → Restored
 lea_if None code = record { stack = stack_top; size = 0 }
 lea_if (Some frame) code = lea_by frame code
 
 -- the stack pointer behind the instruction that gives the frame back, and how many bytes this is of; none if there is
 -- no such instruction
-abbrev pub stack_restored : Option Frame → List ℕ → Restored
+abbrev pub stack_restored : Option FrameRegister → List ℕ → Restored
 stack_restored frame code =
     if adds_byte code then record { stack = above stack_top (signed_byte (slice_index code 3)); size = 4 } else
     if adds_number code then record { stack = above stack_top (signed_number (operand code 3)); size = 7 } else

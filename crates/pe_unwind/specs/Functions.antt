@@ -6,17 +6,17 @@ use Rattle.std.specs.Borrow.{Bor}
 use Rattle.pe_image.specs.Image.{Program, bytes_from}
 use Rattle.pe_image.specs.declared.exception_directory.FunctionEntry.{FunctionEntry}
 use Rattle.pe_unwind.specs.Epilogues.{epilogue_rules}
-use Rattle.pe_unwind.specs.Faults.{◌>>=◌}
+use Rattle.pe_unwind.specs.UnwindErrors.{◌>>=◌}
 use Rattle.pe_unwind.specs.ListedEpilogues.{listed_rules}
 use Rattle.pe_unwind.specs.Rules.{Function, body_rules, prologue_offset}
 use Rattle.pe_unwind.specs.UnwindInfo.{info_at, parents_of}
-use Rattle.pe_unwind.specs.declared.faults.Refusal.{Refusal}
-use Rattle.pe_unwind.specs.declared.faults.Refusal.TheVariants.{Empty, OutsideOfImage, Overlapping}
+use Rattle.pe_unwind.specs.declared.unwind_errors.EntryError.{EntryError}
+use Rattle.pe_unwind.specs.declared.unwind_errors.EntryError.TheVariants.{Empty, OutsideOfImage, Overlapping}
 use Rattle.pe_unwind.specs.declared.rules.Rules.{Rules}
 
 -- the code of a function: it begins at or behind an address, up to which the functions before it reach, ends behind its
 -- start, and the image has bytes for all of it
-abbrev pub code_of : Program → ℕ → FunctionEntry → Result (List ℕ) Refusal
+abbrev pub code_of : Program → ℕ → FunctionEntry → Result (List ℕ) EntryError
 code_of program reach entry =
     if nat_le entry.end entry.begin then Err Empty else
     if nat_lt (length (bytes_from program entry.begin)) (entry.end - entry.begin) then Err OutsideOfImage else
@@ -24,12 +24,12 @@ code_of program reach entry =
     Ok (take (entry.end - entry.begin) (bytes_from program entry.begin))
 
 -- code that a call answers, as bytes
-abbrev pub code_seen : Result (Bor (List ℕ)) Refusal → Result (List ℕ) Refusal
+abbrev pub code_seen : Result (Bor (List ℕ)) EntryError → Result (List ℕ) EntryError
 code_seen (Ok code) = Ok code.now
 code_seen (Err refusal) = Err refusal
 
 -- the unwind info of a function: its own, and those that this is chained to
-abbrev pub function_of : Program → FunctionEntry → Result Function Refusal
+abbrev pub function_of : Program → FunctionEntry → Result Function EntryError
 function_of program entry = do
   own ← info_at program entry.info
   parents ← parents_of program own.parent
@@ -62,7 +62,7 @@ pub record FunctionCode : Type 0 where
   pub code : List ℕ
 
 -- the function of an entry with its code, behind functions that reach up to an address
-abbrev pub function_at : Program → ℕ → FunctionEntry → Result FunctionCode Refusal
+abbrev pub function_at : Program → ℕ → FunctionEntry → Result FunctionCode EntryError
 function_at program reach entry = do
   code ← code_of program reach entry
   function ← function_of program entry

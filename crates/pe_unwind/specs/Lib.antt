@@ -1,4 +1,4 @@
-pub mod Faults
+pub mod UnwindErrors
 pub mod Registers
 pub mod UnwindCodes
 pub mod UnwindInfo

@@ -6,20 +6,20 @@ use Rattle.pe_image.specs.declared.exception_directory.FunctionEntry.{FunctionEn
 use Rattle.pe_unwind.specs.CfiText.{ShowText}
 use Rattle.pe_unwind.specs.Functions.{FunctionCode, function_at, reach_behind}
 use Rattle.pe_unwind.specs.LeafCode.{leaf_text}
-use Rattle.pe_unwind.specs.declared.faults.Refusal.{Refusal}
-use Rattle.pe_unwind.specs.declared.program_records.LeftOut.{LeftOut}
+use Rattle.pe_unwind.specs.declared.unwind_errors.EntryError.{EntryError}
+use Rattle.pe_unwind.specs.declared.program_records.OmittedEntry.{OmittedEntry}
 
 -- what was written so far: the text of records, and the entries that were left out
 pub record Written : Type 0 where
   pub text : List ℕ
-  pub left_out : List LeftOut
+  pub left_out : List OmittedEntry
 
 -- before anything is written
 abbrev pub nothing_written : Written
 nothing_written = record { text = []; left_out = [] }
 
 -- what is written of an entry's function: its records; or if it is refused, it is left out, with the refusal
-abbrev pub Adds : FunctionEntry → Result FunctionCode Refusal → Written → Written → Type 0
+abbrev pub Adds : FunctionEntry → Result FunctionCode EntryError → Written → Written → Type 0
 Adds entry (Ok function) old new = ShowText old.text new.text entry (Ok function) × (new.left_out ≡ old.left_out)
 Adds entry (Err refusal) old new =
     (new.text ≡ old.text) × (new.left_out ≡ old.left_out ++ record { begin = entry.begin; why = refusal } ∷ [])

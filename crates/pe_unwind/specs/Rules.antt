@@ -9,14 +9,14 @@ use Rattle.pe_unwind.specs.declared.registers.Register.{Register}
 use Rattle.pe_unwind.specs.declared.registers.Register.TheVariants.{Rsp}
 use Rattle.pe_unwind.specs.declared.rules.Cfa.{Cfa}
 use Rattle.pe_unwind.specs.declared.rules.Cfa.TheVariants.{Loaded, Sum}
-use Rattle.pe_unwind.specs.declared.rules.Place.{Place}
+use Rattle.pe_unwind.specs.declared.rules.RegisterOffset.{RegisterOffset}
 use Rattle.pe_unwind.specs.declared.rules.Rules.{Rules}
 use Rattle.pe_unwind.specs.declared.rules.Unwound.{Unwound}
 use Rattle.pe_unwind.specs.declared.unwind_codes.Operation.{Operation}
 use Rattle.pe_unwind.specs.declared.unwind_codes.Operation.TheVariants.{Allocate, Epilogue, MachineFrame, Push, Save}
 use Rattle.pe_unwind.specs.declared.unwind_codes.Operation.TheVariants.{SetFrame, Unseen}
 use Rattle.pe_unwind.specs.declared.unwind_codes.UnwindCode.{UnwindCode}
-use Rattle.pe_unwind.specs.declared.unwind_info.Frame.{Frame}
+use Rattle.pe_unwind.specs.declared.unwind_info.FrameRegister.{FrameRegister}
 
 -- the sum of two addresses: addresses have 64 bits, and a negative number stands as its two's complement
 abbrev pub sum_of : ℕ → ℕ → ℕ
@@ -27,19 +27,19 @@ abbrev pub less : ℕ → ℕ → ℕ
 less a b = (a + (2 ^ 64 - b)) % 2 ^ 64
 
 -- a place so many bytes above another
-abbrev pub above : Place → ℕ → Place
+abbrev pub above : RegisterOffset → ℕ → RegisterOffset
 above place bytes = record place { offset = sum_of place.offset bytes }
 
 -- where the stack pointer points before anything is undone
-abbrev pub stack_top : Place
+abbrev pub stack_top : RegisterOffset
 stack_top = record { register = Rsp; offset = 0 }
 
 -- no register is saved
-abbrev pub nothing_saved : List (Option Place)
+abbrev pub nothing_saved : List (Option RegisterOffset)
 nothing_saved = replicate 16 None
 
 -- the place where a frame begins: the frame register points some bytes above it
-abbrev pub frame_start : Frame → Place
+abbrev pub frame_start : FrameRegister → RegisterOffset
 frame_start frame = record { register = frame.register; offset = less 0 frame.offset }
 
 -- before anything is undone the stack pointer is as it is, and no register is saved
@@ -47,7 +47,7 @@ abbrev pub at_first : Unwound
 at_first = record { stack = stack_top; saved = nothing_saved; is_trapped = false }
 
 -- a register is saved at a place; where it is saved twice, the place that comes last counts
-abbrev pub with_saved : Register → Place → Unwound → Unwound
+abbrev pub with_saved : Register → RegisterOffset → Unwound → Unwound
 with_saved register place unwound = record unwound { saved = slice_set unwound.saved (index register) (Some place) }
 
 -- the stack pointer points higher
@@ -55,14 +55,14 @@ abbrev pub popped : ℕ → Unwound → Unwound
 popped bytes unwound = record unwound { stack = above unwound.stack bytes }
 
 -- the stack pointer where a code set the frame register: the frame's start, if the info has a frame register
-abbrev pub at_frame : Option Frame → Unwound → Unwound
+abbrev pub at_frame : Option FrameRegister → Unwound → Unwound
 at_frame None unwound = unwound
 at_frame (Some frame) unwound = record unwound { stack = frame_start frame }
 
 -- what one operation undoes, by the info's frame register and by the place that its frame begins at: a push saves a
 -- register where the stack pointer is, and moves it by 8 bytes; in a machine frame the stack pointer is where the
 -- return address is, above an error code if there is one
-abbrev pub undone : Option Frame → Place → Operation → Unwound → Unwound
+abbrev pub undone : Option FrameRegister → RegisterOffset → Operation → Unwound → Unwound
 undone frame start (Push register) u = popped 8 (with_saved register u.stack u)
 undone frame start (Allocate bytes) u = popped bytes u
 undone frame start SetFrame u = at_frame frame u
@@ -87,12 +87,12 @@ next_counted offset end [] = end
 next_counted offset end (code ∷ codes) = next_counted offset (sooner offset code.offset end) codes
 
 -- what one code undoes: nothing where it doesn't count, and nothing behind a machine frame
-abbrev pub code_undone : Option Frame → Place → Option ℕ → UnwindCode → Unwound → Unwound
+abbrev pub code_undone : Option FrameRegister → RegisterOffset → Option ℕ → UnwindCode → Unwound → Unwound
 code_undone frame start offset code u =
     if u.is_trapped then u else if counts offset code then undone frame start code.operation u else u
 
 -- what some codes undo, one after the other
-abbrev pub codes_undone : Option Frame → Place → Option ℕ → List UnwindCode → Unwound → Unwound
+abbrev pub codes_undone : Option FrameRegister → RegisterOffset → Option ℕ → List UnwindCode → Unwound → Unwound
 codes_undone frame start offset [] u = u
 codes_undone frame start offset (code ∷ codes) u =
     codes_undone frame start offset codes (code_undone frame start offset code u)
@@ -107,13 +107,13 @@ abbrev pub sets_frame : Option ℕ → UnwindCode → Bool
 sets_frame offset code = is_set_frame code.operation && counts offset code
 
 -- the place that a frame with this register begins at, once the register is set
-abbrev pub start_once : Option Frame → Bool → Place
+abbrev pub start_once : Option FrameRegister → Bool → RegisterOffset
 start_once None set = stack_top
 start_once (Some frame) set = if set then frame_start frame else stack_top
 
 -- the place that SAVE codes count from: the frame's start if the info has a frame register that is set there, which is
 -- so behind the prologue, in a chained info, and behind the code that sets it; else the stack pointer
-abbrev pub saves_from : Option ℕ → Info → Place
+abbrev pub saves_from : Option ℕ → Info → RegisterOffset
 saves_from offset info =
     start_once info.frame (is_none offset || is_some info.parent || list_any (sets_frame offset) info.codes)
 

@@ -3,10 +3,10 @@ use Rattle.std.specs.Prelude.{ℕ, zero, suc, ◌+◌, ◌*◌, ◌/◌, ◌%◌
 use Rattle.std.specs.Prelude.{Option, Some, None, Result, Ok, Err, slice_index, unwrap_or, if◌then◌else◌}
 use Rattle.std.specs.Option.{ok_or}
 use Rattle.pe_image.specs.NumbersAt.{number_at}
-use Rattle.pe_unwind.specs.Faults.{◌>>=◌, behind}
+use Rattle.pe_unwind.specs.UnwindErrors.{◌>>=◌, behind}
 use Rattle.pe_unwind.specs.Registers.{register}
-use Rattle.pe_unwind.specs.declared.faults.Refusal.{Refusal}
-use Rattle.pe_unwind.specs.declared.faults.Refusal.TheVariants.{CodesCut, UnknownCode}
+use Rattle.pe_unwind.specs.declared.unwind_errors.EntryError.{EntryError}
+use Rattle.pe_unwind.specs.declared.unwind_errors.EntryError.TheVariants.{CodesCut, UnknownCode}
 use Rattle.pe_unwind.specs.declared.unwind_codes.Operation.{Operation}
 use Rattle.pe_unwind.specs.declared.unwind_codes.Operation.TheVariants.{Allocate, Epilogue, MachineFrame, Push, Save}
 use Rattle.pe_unwind.specs.declared.unwind_codes.Operation.TheVariants.{SetFrame, Unseen}
@@ -98,7 +98,7 @@ operation_of kind info operands =
 
 -- the code that takes so many slots at the front, and the bytes behind it: the offset in the prologue, then the kind
 -- in the low four bits of a byte and the operation info in its high four bits
-abbrev pub code_of : List ℕ → ℕ → Result (UnwindCode × List ℕ) Refusal
+abbrev pub code_of : List ℕ → ℕ → Result (UnwindCode × List ℕ) EntryError
 code_of bytes count =
     if nat_lt (length bytes) (2 * count) then Err CodesCut else Ok (
       record {
@@ -109,13 +109,13 @@ code_of bytes count =
     )
 
 -- the code at the front, and the bytes behind it
-abbrev pub first_code : ℕ → List ℕ → Result (UnwindCode × List ℕ) Refusal
+abbrev pub first_code : ℕ → List ℕ → Result (UnwindCode × List ℕ) EntryError
 first_code version bytes = do
   count ← ok_or (slot_count version (slice_index bytes 1 % 16) (slice_index bytes 1 / 16)) UnknownCode
   code_of bytes count
 
 -- at most so many codes, until the bytes end
-abbrev pub codes_up_to : ℕ → ℕ → List ℕ → Result (List UnwindCode) Refusal
+abbrev pub codes_up_to : ℕ → ℕ → List ℕ → Result (List UnwindCode) EntryError
 codes_up_to zero version bytes = Ok []
 codes_up_to (suc count) version bytes =
     if length bytes == 0 then Ok [] else (do
@@ -123,5 +123,5 @@ codes_up_to (suc count) version bytes =
       behind (read.0 ∷ []) (codes_up_to count version read.1))
 
 -- all codes in these bytes: each takes a slot or more, so there are no more of them than bytes
-unfoldable pub unwind_codes : ℕ → List ℕ → Result (List UnwindCode) Refusal
+unfoldable pub unwind_codes : ℕ → List ℕ → Result (List UnwindCode) EntryError
 unwind_codes version bytes = codes_up_to (length bytes) version bytes

@@ -4,32 +4,32 @@ use Rattle.std.specs.Prelude.{length}
 use Rattle.std.specs.Prelude.{Option, Some, None, Result, Ok, Err, slice_index, if◌then◌else◌}
 use Rattle.pe_image.specs.ExceptionDirectory.{function_entry}
 use Rattle.pe_image.specs.Image.{Program, bytes_from}
-use Rattle.pe_unwind.specs.Faults.{◌>>=◌, behind}
+use Rattle.pe_unwind.specs.UnwindErrors.{◌>>=◌, behind}
 use Rattle.pe_unwind.specs.Registers.{register}
 use Rattle.pe_unwind.specs.UnwindCodes.{unwind_codes}
-use Rattle.pe_unwind.specs.declared.faults.Refusal.{Refusal}
-use Rattle.pe_unwind.specs.declared.faults.Refusal.TheVariants.{ChainTooLong, CodesCut, InfoOutsideOfImage}
-use Rattle.pe_unwind.specs.declared.faults.Refusal.TheVariants.{UnknownVersion}
+use Rattle.pe_unwind.specs.declared.unwind_errors.EntryError.{EntryError}
+use Rattle.pe_unwind.specs.declared.unwind_errors.EntryError.TheVariants.{ChainTooLong, CodesCut, InfoOutsideOfImage}
+use Rattle.pe_unwind.specs.declared.unwind_errors.EntryError.TheVariants.{UnknownVersion}
 use Rattle.pe_unwind.specs.declared.unwind_codes.UnwindCode.{UnwindCode}
-use Rattle.pe_unwind.specs.declared.unwind_info.Frame.{Frame}
+use Rattle.pe_unwind.specs.declared.unwind_info.FrameRegister.{FrameRegister}
 
 -- what an unwind info says: its version, the size of the prologue, the frame register if there is one, its codes, and
 -- the address of the info that it is chained to, if it is
 pub record Info : Type 0 where
   pub version : ℕ
   pub prologue_size : ℕ
-  pub frame : Option Frame
+  pub frame : Option FrameRegister
   pub codes : List UnwindCode
   pub parent : Option ℕ
 
 -- the frame register and its offset in bytes, by the byte that has them: the register in the low four bits, none if
 -- they are 0; the offset in units of 16 bytes in the high four bits
-abbrev pub frame_of : ℕ → Option Frame
+abbrev pub frame_of : ℕ → Option FrameRegister
 frame_of byte =
     if byte % 16 == 0 then None else Some (record { register = register (byte % 16); offset = byte / 16 * 16 })
 
 -- the bytes of the codes: as many slots of two bytes as the third byte says, behind the header of four bytes
-abbrev pub code_bytes : List ℕ → Result (List ℕ) Refusal
+abbrev pub code_bytes : List ℕ → Result (List ℕ) EntryError
 code_bytes bytes =
     if nat_lt (length bytes) (4 + 2 * slice_index bytes 2) then Err CodesCut
     else Ok (take (2 * slice_index bytes 2) (drop 4 bytes))
@@ -40,7 +40,7 @@ parent_at slots = 4 + 2 * (slots + slots % 2)
 
 -- an info is chained if UNW_FLAG_CHAININFO, 4, is among its flags, which are the high five bits of the first byte; the
 -- address of its parent's info is that of the entry behind its codes
-abbrev pub parent_of : List ℕ → Result (Option ℕ) Refusal
+abbrev pub parent_of : List ℕ → Result (Option ℕ) EntryError
 parent_of bytes =
     if slice_index bytes 0 / 32 % 2 == 0 then Ok None else
     if nat_lt (length bytes) (parent_at (slice_index bytes 2) + 12) then Err InfoOutsideOfImage else
@@ -48,7 +48,7 @@ parent_of bytes =
 
 -- what the info says that begins with these bytes: the version in the low three bits of the first byte, then the size
 -- of the prologue, the number of slots, and the frame register
-abbrev pub info_in : List ℕ → Result Info Refusal
+abbrev pub info_in : List ℕ → Result Info EntryError
 info_in bytes =
     if nat_lt (length bytes) 4 then Err InfoOutsideOfImage else
     if (slice_index bytes 0 % 8 == 1) || (slice_index bytes 0 % 8 == 2) then (do
@@ -66,20 +66,20 @@ info_in bytes =
 
 -- the address of the info that an entry leads to: if the lowest bit is set (an indirect entry), what is there without
 -- this bit is another entry, whose info counts
-abbrev pub info_address : Program → ℕ → Result ℕ Refusal
+abbrev pub info_address : Program → ℕ → Result ℕ EntryError
 info_address program rva =
     if rva % 2 == 0 then Ok rva else
     if nat_lt (length (bytes_from program (rva - 1))) 12 then Err InfoOutsideOfImage else
     Ok (function_entry (bytes_from program (rva - 1))).info
 
 -- what the info says that an entry leads to
-unfoldable pub info_at : Program → ℕ → Result Info Refusal
+unfoldable pub info_at : Program → ℕ → Result Info EntryError
 info_at program rva = do
   address ← info_address program rva
   info_in (bytes_from program address)
 
 -- the infos that an info is chained to, one after the other, if there are no more than so many
-abbrev pub parents_up_to : ℕ → Program → Option ℕ → Result (List Info) Refusal
+abbrev pub parents_up_to : ℕ → Program → Option ℕ → Result (List Info) EntryError
 parents_up_to left program None = Ok []
 parents_up_to zero program (Some rva) = Err ChainTooLong
 parents_up_to (suc left) program (Some rva) = do
@@ -87,5 +87,5 @@ parents_up_to (suc left) program (Some rva) = do
   behind (info ∷ []) (parents_up_to left program info.parent)
 
 -- the infos that an info is chained to; more than 32, as in a circle, are refused
-unfoldable pub parents_of : Program → Option ℕ → Result (List Info) Refusal
+unfoldable pub parents_of : Program → Option ℕ → Result (List Info) EntryError
 parents_of program parent = parents_up_to 32 program parent

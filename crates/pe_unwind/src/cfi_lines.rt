@@ -3,12 +3,12 @@
 ghost use Rattle.std.specs.Prelude.{◌≡◌, ◌≤◌, ℕ, ◌+◌, ◌-◌, ◌<◌, length, IfErr, IfOk, IsTrue, OnOk, Some};
 ghost use Rattle.pe_unwind.specs.CfiLines.{Ascend, Show, shown};
 ghost use Rattle.pe_unwind.specs.CfiRecords.{AreWhole, LetKnow, records};
-ghost use Rattle.pe_unwind.specs.Faults.{Fails};
+ghost use Rattle.pe_unwind.specs.UnwindErrors.{Fails};
 ghost use Rattle.pe_unwind.specs.Functions.{function_at, rule_at};
 
-use crate::faults::UnwindFault;
 use crate::functions::{code_of, read_function, rule_by_body, rules_end};
-use crate::rules::{FunctionUnwind, Place, Rules, body_rules, is_same_rules};
+use crate::rules::{FunctionUnwind, RegisterOffset, Rules, body_rules, is_same_rules};
+use crate::unwind_errors::UnwindError;
 use pe_image::{FunctionEntry, Image};
 use std::alloc::{AllocError, Global};
 
@@ -32,7 +32,7 @@ pub fn function_lines(
     image: &Image<'_>,
     reach: u32,
     entry: FunctionEntry,
-) -> Result<Vec<CfiLine>, UnwindFault>
+) -> Result<Vec<CfiLine>, UnwindError>
     ensures answer { IfOk result (λ lines. Show lines.items (function_at image.now reach entry)) }
     ensures ascending { IfOk result (λ lines. Ascend lines.items (entry.end - entry.begin)) }
     ensures records { IfOk result (λ lines. LetKnow (records lines.items) (function_at image.now reach entry)) }
@@ -84,7 +84,7 @@ fn push_change(
     ensures ascend { OnOk result (Ascend lines.new.items (offset + 1)) }
     ensures whole { OnOk result (AreWhole lines.new.items) }
 {
-    let saved: &[Option<Place>] = &rules.saved;
+    let saved: &[Option<RegisterOffset>] = &rules.saved;
     prove!(saved.len() == 16);
     if !is_same(last, rules) {
         lines.push(CfiLine { offset, rules })?;

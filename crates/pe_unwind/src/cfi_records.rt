@@ -3,63 +3,63 @@
 ghost use Rattle.std.specs.Prelude.{◌≡◌, ◌++◌, ◌≤◌, ◌<◌, ◌^◌, length, map, IfOk, OnOk, Some};
 ghost use Rattle.pe_unwind.specs.CfiRecords.{CfaFits, place_known};
 ghost use Rattle.pe_unwind.specs.declared.rules.Cfa.{Cfa};
-ghost use Rattle.pe_unwind.specs.declared.rules.Place.{Place};
+ghost use Rattle.pe_unwind.specs.declared.rules.RegisterOffset.{RegisterOffset};
 ghost use Rattle.pe_unwind.specs.CfiRecords.{first_items, found_by, if_changed, later_items, place_by, register_items};
 ghost use Rattle.pe_unwind.specs.CfiRecords.{same_cfa, same_found, same_place, same_register, written};
 
 use crate::registers::{Register, index, numbered};
-use crate::rules::{Cfa, Place, Rules, less};
+use crate::rules::{Cfa, RegisterOffset, Rules, less};
 use std::alloc::{AllocError, Global};
 
 /// How the return address or a register of the caller is found.
 #[derive(Debug, Clone, Copy)]
-pub enum Found {
+pub enum RegisterRule {
     /// The register has its value still.
     Unchanged,
     /// It is stored so many bytes below the caller's stack pointer.
     BelowCfa(u64),
     /// It is stored at a place.
-    At(Place),
+    At(RegisterOffset),
 }
 
 /// What a record says of one thing.
 #[derive(Debug, Clone, Copy)]
-pub enum Item {
+pub enum CfiItem {
     /// The caller's stack pointer.
     CfaItem(Cfa),
     /// The return address.
-    ReturnItem(Found),
+    ReturnItem(RegisterRule),
     /// A register.
-    RegisterItem(Register, Found),
+    RegisterItem(Register, RegisterRule),
 }
 
 /// The items of a function's first record, by its rules.
-pub fn first_items(alloc: Global, new: &Rules) -> Result<Vec<Item>, AllocError>
+pub fn first_items(alloc: Global, new: &Rules) -> Result<Vec<CfiItem>, AllocError>
     ensures { IfOk result (λ items. items.items ≡ first_items (written new.now)) }
 {
     let mut items = Vec::new(alloc);
-    items.push(Item::CfaItem(new.cfa))?;
-    items.push(Item::ReturnItem(place_by(new.cfa, new.return_address)))?;
+    items.push(CfiItem::CfaItem(new.cfa))?;
+    items.push(CfiItem::ReturnItem(place_by(new.cfa, new.return_address)))?;
     push_registers(&mut items, new.cfa, &[None; 16], new.cfa, &new.saved)?;
     Ok(items)
 }
 
 /// The items of a later record, by the rules before and by those from there on.
-pub fn later_items(alloc: Global, old: &Rules, new: &Rules) -> Result<Vec<Item>, AllocError>
+pub fn later_items(alloc: Global, old: &Rules, new: &Rules) -> Result<Vec<CfiItem>, AllocError>
     ensures { IfOk result (λ items. items.items ≡ later_items (written old.now) (written new.now)) }
 {
     let mut items = Vec::new(alloc);
     push_changed(
         &mut items,
         same_cfa(old.cfa, new.cfa),
-        Item::CfaItem(new.cfa),
+        CfiItem::CfaItem(new.cfa),
     )?;
     let old_return = place_by(old.cfa, old.return_address);
     let new_return = place_by(new.cfa, new.return_address);
     push_changed(
         &mut items,
         same_found(old_return, new_return),
-        Item::ReturnItem(new_return),
+        CfiItem::ReturnItem(new_return),
     )?;
     push_registers(&mut items, old.cfa, &old.saved, new.cfa, &new.saved)?;
     Ok(items)
@@ -67,17 +67,17 @@ pub fn later_items(alloc: Global, old: &Rules, new: &Rules) -> Result<Vec<Item>,
 
 /// Law: a record keeps the place where a register is saved.
 pub fn records_keep_places()
-    ensures { (cfa : Cfa) (place : Place) → CfaFits cfa → place.offset < 2 ^ 64
+    ensures { (cfa : Cfa) (place : RegisterOffset) → CfaFits cfa → place.offset < 2 ^ 64
         → place_known cfa (place_by cfa place) ≡ Some place }
 {}
 
 // Appends the items of the registers whose rules change.
 fn push_registers(
-    items: &mut Vec<Item>,
+    items: &mut Vec<CfiItem>,
     old_cfa: Cfa,
-    old: &[Option<Place>],
+    old: &[Option<RegisterOffset>],
     new_cfa: Cfa,
-    new: &[Option<Place>],
+    new: &[Option<RegisterOffset>],
 ) -> Result<(), AllocError>
     requires { length old.now ≤ length new.now }
     ensures { OnOk result (items.new.items ≡ items.old.items
@@ -86,14 +86,14 @@ fn push_registers(
     for position in 0..old.len() {
         let before = found_by(old_cfa, old[position]);
         let after = found_by(new_cfa, new[position]);
-        let item = Item::RegisterItem(numbered(position), after);
+        let item = CfiItem::RegisterItem(numbered(position), after);
         push_changed(items, same_found(before, after), item)?;
     }
     Ok(())
 }
 
 // Appends an item where a rule changes.
-fn push_changed(items: &mut Vec<Item>, same: bool, item: Item) -> Result<(), AllocError>
+fn push_changed(items: &mut Vec<CfiItem>, same: bool, item: CfiItem) -> Result<(), AllocError>
     ensures { OnOk result (items.new.items ≡ items.old.items ++ if_changed same item) }
 {
     if !same {
@@ -110,7 +110,7 @@ fn same_register(a: Register, b: Register) -> bool
 }
 
 // Whether two places are the same.
-fn same_place(a: Place, b: Place) -> bool
+fn same_place(a: RegisterOffset, b: RegisterOffset) -> bool
     ensures { result ≡ same_place a b }
 {
     same_register(a.register, b.register) && a.offset == b.offset
@@ -128,35 +128,35 @@ fn same_cfa(a: Cfa, b: Cfa) -> bool
 }
 
 // Whether something is found in the same way.
-fn same_found(a: Found, b: Found) -> bool
+fn same_found(a: RegisterRule, b: RegisterRule) -> bool
     ensures { result ≡ same_found a b }
 {
     match (a, b) {
-        (Found::Unchanged, Found::Unchanged) => true,
-        (Found::BelowCfa(a), Found::BelowCfa(b)) => a == b,
-        (Found::At(a), Found::At(b)) => same_place(a, b),
+        (RegisterRule::Unchanged, RegisterRule::Unchanged) => true,
+        (RegisterRule::BelowCfa(a), RegisterRule::BelowCfa(b)) => a == b,
+        (RegisterRule::At(a), RegisterRule::At(b)) => same_place(a, b),
         _ => false,
     }
 }
 
 // Where a place is by the caller's stack pointer.
-fn place_by(cfa: Cfa, place: Place) -> Found
+fn place_by(cfa: Cfa, place: RegisterOffset) -> RegisterRule
     ensures { result ≡ place_by cfa place }
 {
     match cfa {
         Cfa::Sum(top) if same_register(top.register, place.register) => {
-            Found::BelowCfa(less(top.offset, place.offset))
+            RegisterRule::BelowCfa(less(top.offset, place.offset))
         }
-        _ => Found::At(place),
+        _ => RegisterRule::At(place),
     }
 }
 
 // How a register is found by the place where it is saved.
-fn found_by(cfa: Cfa, saved: Option<Place>) -> Found
+fn found_by(cfa: Cfa, saved: Option<RegisterOffset>) -> RegisterRule
     ensures { result ≡ found_by cfa saved }
 {
     match saved {
-        None => Found::Unchanged,
+        None => RegisterRule::Unchanged,
         Some(place) => place_by(cfa, place),
     }
 }

@@ -4,14 +4,14 @@ ghost use Rattle.std.specs.Prelude.{◌≡◌, ◌++◌, IfErr, OnOk, string_byt
 ghost use Rattle.std.specs.List.{flat_map};
 ghost use Rattle.pe_unwind.specs.CfiText.{cfa_text, first_text, found_text, function_text, item_text, later_text};
 ghost use Rattle.pe_unwind.specs.CfiText.{ShowText, later_texts, name, place_text, signed_decimal};
-ghost use Rattle.pe_unwind.specs.Faults.{Fails, IsRefusal};
+ghost use Rattle.pe_unwind.specs.UnwindErrors.{Fails, IsRefusal};
 ghost use Rattle.pe_unwind.specs.Functions.{function_at};
 
 use crate::cfi_lines::{CfiLine, function_lines};
-use crate::cfi_records::{Found, Item, first_items, later_items};
-use crate::faults::UnwindFault;
+use crate::cfi_records::{CfiItem, RegisterRule, first_items, later_items};
 use crate::registers::Register;
-use crate::rules::{Cfa, Place, Rules};
+use crate::rules::{Cfa, RegisterOffset, Rules};
+use crate::unwind_errors::UnwindError;
 use pe_image::{FunctionEntry, Image};
 use std::alloc::{AllocError, Global};
 
@@ -27,7 +27,7 @@ pub fn push_entry(
     image: &Image<'_>,
     reach: u32,
     entry: FunctionEntry,
-) -> Result<(), UnwindFault>
+) -> Result<(), UnwindError>
     ensures answer { OnOk result (ShowText (string_bytes text.old) (string_bytes text.new) entry
         (function_at image.now reach entry)) }
     ensures refused { IfErr result (λ fault. Fails fault (function_at image.now reach entry)) }
@@ -120,7 +120,7 @@ fn push_later(
 }
 
 // Appends items.
-fn push_items(text: &mut String, items: &[Item]) -> Result<(), AllocError>
+fn push_items(text: &mut String, items: &[CfiItem]) -> Result<(), AllocError>
     ensures { OnOk result (string_bytes text.new ≡ string_bytes text.old ++ flat_map item_text items.now) }
 {
     for &item in items {
@@ -131,19 +131,19 @@ fn push_items(text: &mut String, items: &[Item]) -> Result<(), AllocError>
 
 // Appends an item.
 #[tactic(auto, unfolding(crate::specs::CfiText::item_text))]
-fn push_item(text: &mut String, item: Item) -> Result<(), AllocError>
+fn push_item(text: &mut String, item: CfiItem) -> Result<(), AllocError>
     ensures { OnOk result (string_bytes text.new ≡ string_bytes text.old ++ item_text item) }
 {
     match item {
-        Item::CfaItem(cfa) => {
+        CfiItem::CfaItem(cfa) => {
             text.push_str(" .cfa: ")?;
             push_cfa(text, cfa)
         }
-        Item::ReturnItem(found) => {
+        CfiItem::ReturnItem(found) => {
             text.push_str(" .ra: ")?;
             push_found(text, ".ra", found)
         }
-        Item::RegisterItem(register, found) => {
+        CfiItem::RegisterItem(register, found) => {
             let own = name(register);
             text.push_str(" ")?;
             text.push_str(own)?;
@@ -167,17 +167,17 @@ fn push_cfa(text: &mut String, cfa: Cfa) -> Result<(), AllocError>
 }
 
 // Appends how the return address or a register is found, by its own name.
-fn push_found(text: &mut String, own: &str, found: Found) -> Result<(), AllocError>
+fn push_found(text: &mut String, own: &str, found: RegisterRule) -> Result<(), AllocError>
     ensures { OnOk result (string_bytes text.new ≡ string_bytes text.old ++ found_text own.now found) }
 {
     match found {
-        Found::Unchanged => text.push_str(own),
-        Found::BelowCfa(bytes) => {
+        RegisterRule::Unchanged => text.push_str(own),
+        RegisterRule::BelowCfa(bytes) => {
             text.push_str(".cfa ")?;
             push_signed(text, bytes)?;
             text.push_str(" - ^")
         }
-        Found::At(place) => {
+        RegisterRule::At(place) => {
             push_place(text, place)?;
             text.push_str(" ^")
         }
@@ -185,7 +185,7 @@ fn push_found(text: &mut String, own: &str, found: Found) -> Result<(), AllocErr
 }
 
 // Appends the address of a place.
-fn push_place(text: &mut String, place: Place) -> Result<(), AllocError>
+fn push_place(text: &mut String, place: RegisterOffset) -> Result<(), AllocError>
     ensures { OnOk result (string_bytes text.new ≡ string_bytes text.old ++ place_text place) }
 {
     text.push_str(name(place.register))?;

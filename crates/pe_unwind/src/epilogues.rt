@@ -10,9 +10,10 @@ ghost use Rattle.pe_unwind.specs.declared.rules.Unwound.{Unwound};
 
 use crate::registers::{Register, index, numbered};
 use crate::rules::{
-    FunctionUnwind, Place, Rules, Unwound, above, at_first, popped, rules_of, stack_top, with_saved,
+    FunctionUnwind, RegisterOffset, Rules, Unwound, above, at_first, popped, rules_of, stack_top,
+    with_saved,
 };
-use crate::unwind_info::Frame;
+use crate::unwind_info::FrameRegister;
 use pe_image::u32_at;
 
 /// How many registers an epilogue pops at most.
@@ -25,7 +26,7 @@ const POP_RSP: u8 = 0x5c;
 #[derive(Clone, Copy)]
 struct Restored {
     /// Where the stack pointer points behind it.
-    stack: Place,
+    stack: RegisterOffset,
     /// Its size in bytes, 0 if there is none.
     size: usize,
 }
@@ -127,7 +128,7 @@ fn may_follow(second: u8, third: u8) -> bool
 }
 
 // Nothing undone, with the stack pointer here.
-fn from_stack(stack: Place) -> Unwound
+fn from_stack(stack: RegisterOffset) -> Unwound
     ensures { result ≡ record at_first { stack = stack } }
 {
     let first = at_first();
@@ -220,7 +221,7 @@ fn leas(number: u8, mode: u8, size: usize, code: &[u8]) -> bool
 }
 
 // The stack pointer behind a lea by a frame register.
-fn lea_by(frame: Frame, code: &[u8]) -> Restored
+fn lea_by(frame: FrameRegister, code: &[u8]) -> Restored
     ensures { result ≡ lea_by frame code.now }
 {
     let number = index(frame.register) as u8;
@@ -232,7 +233,7 @@ fn lea_by(frame: Frame, code: &[u8]) -> Restored
         return nothing_restored();
     };
     Restored {
-        stack: Place {
+        stack: RegisterOffset {
             register: frame.register,
             offset,
         },
@@ -251,7 +252,7 @@ fn nothing_restored() -> Restored
 }
 
 // The same, if the function has a frame register.
-fn lea_if(frame: Option<Frame>, code: &[u8]) -> Restored
+fn lea_if(frame: Option<FrameRegister>, code: &[u8]) -> Restored
     ensures { result ≡ lea_if frame code.now }
 {
     match frame {
@@ -261,7 +262,7 @@ fn lea_if(frame: Option<Frame>, code: &[u8]) -> Restored
 }
 
 // The stack pointer behind the instruction that gives the frame back.
-fn stack_restored(frame: Option<Frame>, code: &[u8]) -> Restored
+fn stack_restored(frame: Option<FrameRegister>, code: &[u8]) -> Restored
     ensures { result ≡ stack_restored frame code.now }
 {
     if adds_byte(code) {

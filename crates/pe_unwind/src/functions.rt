@@ -1,35 +1,39 @@
 //! The functions of the exception directory, with their unwind infos and their code, and the rules at each offset.
 
 ghost use Rattle.std.specs.Prelude.{◌≡◌, ◌==◌, ◌≤◌, ◌<◌, ◌+◌, ℕ, is_some, length, true, IfOk, None};
-ghost use Rattle.pe_unwind.specs.Faults.{Gives};
+ghost use Rattle.pe_unwind.specs.UnwindErrors.{Gives};
 ghost use Rattle.pe_unwind.specs.Functions.{may_leave, reach_behind, rule_at};
 ghost use Rattle.pe_unwind.specs.Functions.{code_of, code_seen, epilogue_at, function_of, is_plain};
 ghost use Rattle.pe_unwind.specs.Rules.{body_rules};
 
 use crate::epilogues::{epilogue_rules, is_epilogue, next_epilogue};
-use crate::faults::{Refusal, UnwindFault};
 use crate::listed_epilogues::{is_listed, listed_rules, next_listed};
 use crate::rules::{FunctionUnwind, Rules, body_rules, next_step, prologue_offset};
+use crate::unwind_errors::{EntryError, UnwindError};
 use crate::unwind_info::{info_at, parents_of};
 use pe_image::{FunctionEntry, Image};
 use std::alloc::Global;
 
 /// The code of a function: all bytes from its start to its end. It is refused if it is empty, if the image has no
 /// bytes for all of it, or if it begins before `reach`, the end of the functions before it.
-pub fn code_of<'a>(image: &Image<'a>, reach: u32, entry: FunctionEntry) -> Result<&'a [u8], Refusal>
+pub fn code_of<'a>(
+    image: &Image<'a>,
+    reach: u32,
+    entry: FunctionEntry,
+) -> Result<&'a [u8], EntryError>
     ensures answer { code_seen result ≡ code_of image.now reach entry }
     ensures size { IfOk result (λ code. length code.now + entry.begin ≡ entry.end) }
 {
     if entry.end <= entry.begin {
-        return Err(Refusal::Empty);
+        return Err(EntryError::Empty);
     }
     let size = (entry.end - entry.begin) as usize;
     let bytes = image.bytes_from(entry.begin);
     if bytes.len() < size {
-        return Err(Refusal::OutsideOfImage);
+        return Err(EntryError::OutsideOfImage);
     }
     if entry.begin < reach {
-        return Err(Refusal::Overlapping);
+        return Err(EntryError::Overlapping);
     }
     let (code, _) = bytes.split_at(size);
     Ok(code)
@@ -40,7 +44,7 @@ pub fn read_function(
     alloc: Global,
     image: &Image<'_>,
     entry: FunctionEntry,
-) -> Result<FunctionUnwind, UnwindFault>
+) -> Result<FunctionUnwind, UnwindError>
     ensures answer { Gives (λ function. function) result (function_of image.now entry) }
     ensures begin { IfOk result (λ function. function.begin ≡ entry.begin) }
     ensures end { IfOk result (λ function. function.end ≡ entry.end) }

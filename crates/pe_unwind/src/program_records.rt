@@ -5,9 +5,9 @@ ghost use Rattle.pe_unwind.specs.Functions.{function_at};
 ghost use Rattle.pe_unwind.specs.ProgramRecords.{Adds, AddsAll, AreUnwindRecords};
 
 use crate::cfi_text::push_entry;
-use crate::faults::{Refusal, UnwindFault};
 use crate::functions::reach_behind;
 use crate::leaf_code::push_leaf_records;
+use crate::unwind_errors::{EntryError, UnwindError};
 use pe_image::{FunctionEntry, Image, function_entries};
 use std::alloc::{AllocError, Global};
 use std::marker::Model;
@@ -18,7 +18,7 @@ pub struct UnwindRecords {
     /// A line for each record.
     pub text: String,
     /// The entries of the exception directory that have no records, in their order.
-    pub left_out: Vec<LeftOut>,
+    pub left_out: Vec<OmittedEntry>,
 }
 
 impl Model for UnwindRecords {
@@ -32,10 +32,10 @@ impl Model for UnwindRecords {
 
 /// An entry of the exception directory that has no records.
 #[derive(Debug, Clone, Copy, PartialEq, Eq)]
-pub struct LeftOut {
+pub struct OmittedEntry {
     /// The address of its function's first byte, relative to the image base.
     pub begin: u32,
-    pub why: Refusal,
+    pub why: EntryError,
 }
 
 /// The unwind records of a program for x64: those of each entry of its exception directory, in this order, and behind
@@ -83,9 +83,9 @@ fn add_entry(
     let begin = entry.begin;
     match push_entry(alloc, &mut records.text, image, reach, entry) {
         Ok(()) => Ok(()),
-        Err(UnwindFault::OutOfMemory) => Err(AllocError),
-        Err(UnwindFault::Refused(why)) => {
-            records.left_out.push(LeftOut { begin, why })?;
+        Err(UnwindError::OutOfMemory) => Err(AllocError),
+        Err(UnwindError::Refused(why)) => {
+            records.left_out.push(OmittedEntry { begin, why })?;
             Ok(())
         }
     }

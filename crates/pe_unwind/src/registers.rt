@@ -51,7 +51,7 @@ pub(crate) fn numbered(number: usize) -> Register
 /// The number of a register, from 0 to 15.
 pub(crate) fn index(register: Register) -> usize
     ensures answer { result ≡ index register }
-    ensures few { result < 16 }
+    ensures bound { result < 16 }
 {
     match register {
         Register::Rax => 0,

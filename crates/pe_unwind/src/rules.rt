@@ -10,11 +10,11 @@ ghost use Rattle.pe_unwind.specs.Rules.{rules_of, saves_from, sets_frame, stack_
 
 use crate::registers::{Register, index};
 use crate::unwind_codes::{Operation, UnwindCode};
-use crate::unwind_info::{Frame, UnwindInfo};
+use crate::unwind_info::{FrameRegister, UnwindInfo};
 
 /// A place in memory: so many bytes above where a register points.
 #[derive(Debug, Clone, Copy, PartialEq, Eq)]
-pub struct Place {
+pub struct RegisterOffset {
     pub register: Register,
     /// In bytes. A negative offset stands as its two's complement.
     pub offset: u64,
@@ -24,9 +24,9 @@ pub struct Place {
 #[derive(Debug, Clone, Copy, PartialEq, Eq)]
 pub enum Cfa {
     /// It is the address of this place.
-    Sum(Place),
+    Sum(RegisterOffset),
     /// It is stored at this place.
-    Loaded(Place),
+    Loaded(RegisterOffset),
 }
 
 /// How a function's caller is found from one of its addresses.
@@ -34,17 +34,17 @@ pub enum Cfa {
 pub struct Rules {
     pub cfa: Cfa,
     /// Where the return address is stored.
-    pub return_address: Place,
+    pub return_address: RegisterOffset,
     /// Where each register is stored, by its number. `None` if the caller has the register's value still.
-    pub saved: [Option<Place>; 16],
+    pub saved: [Option<RegisterOffset>; 16],
 }
 
 /// What has been undone of a function's prologue.
 #[derive(Clone, Copy)]
 pub(crate) struct Unwound {
     /// Where the stack pointer points.
-    pub(crate) stack: Place,
-    pub(crate) saved: [Option<Place>; 16],
+    pub(crate) stack: RegisterOffset,
+    pub(crate) saved: [Option<RegisterOffset>; 16],
     /// Whether a machine frame was undone, behind which nothing follows.
     pub(crate) is_trapped: bool,
 }
@@ -70,10 +70,10 @@ impl std::marker::Model for FunctionUnwind {
 }
 
 /// A place so many bytes above another.
-pub(crate) fn above(place: Place, bytes: u64) -> Place
+pub(crate) fn above(place: RegisterOffset, bytes: u64) -> RegisterOffset
     ensures { result ≡ above place bytes }
 {
-    Place {
+    RegisterOffset {
         register: place.register,
         offset: place.offset.wrapping_add(bytes),
     }
@@ -91,7 +91,7 @@ pub(crate) fn at_first() -> Unwound
 }
 
 /// With a register saved at a place.
-pub(crate) fn with_saved(register: Register, place: Place, unwound: Unwound) -> Unwound
+pub(crate) fn with_saved(register: Register, place: RegisterOffset, unwound: Unwound) -> Unwound
     ensures { result ≡ with_saved register place unwound }
 {
     let mut saved = unwound.saved;
@@ -151,20 +151,20 @@ pub(crate) fn body_rules(function: &FunctionUnwind, offset: Option<u32>) -> Rule
 }
 
 /// Where the stack pointer points before anything is undone.
-pub(crate) fn stack_top() -> Place
+pub(crate) fn stack_top() -> RegisterOffset
     ensures { result ≡ stack_top }
 {
-    Place {
+    RegisterOffset {
         register: Register::Rsp,
         offset: 0,
     }
 }
 
 // The place where a frame begins.
-fn frame_start(frame: Frame) -> Place
+fn frame_start(frame: FrameRegister) -> RegisterOffset
     ensures { result ≡ frame_start frame }
 {
-    Place {
+    RegisterOffset {
         register: frame.register,
         offset: less(0, u64::from(frame.offset)),
     }
@@ -178,7 +178,7 @@ pub(crate) fn less(address: u64, bytes: u64) -> u64
 }
 
 // The stack pointer where a code set the frame register.
-fn at_frame(frame: Option<Frame>, unwound: Unwound) -> Unwound
+fn at_frame(frame: Option<FrameRegister>, unwound: Unwound) -> Unwound
     ensures { result ≡ at_frame frame unwound }
 {
     match frame {
@@ -207,7 +207,12 @@ fn trapped(unwound: Unwound) -> Unwound
 }
 
 // What one operation undoes.
-fn undone(frame: Option<Frame>, start: Place, operation: Operation, unwound: Unwound) -> Unwound
+fn undone(
+    frame: Option<FrameRegister>,
+    start: RegisterOffset,
+    operation: Operation,
+    unwound: Unwound,
+) -> Unwound
     ensures { result ≡ undone frame start operation unwound }
 {
     match operation {
@@ -268,8 +273,8 @@ pub(crate) fn next_step(function: &FunctionUnwind, offset: u32, size: u32) -> u3
 
 // What one code undoes.
 fn code_undone(
-    frame: Option<Frame>,
-    start: Place,
+    frame: Option<FrameRegister>,
+    start: RegisterOffset,
     offset: Option<u32>,
     code: UnwindCode,
     unwound: Unwound,
@@ -284,8 +289,8 @@ fn code_undone(
 
 // What some codes undo, one after the other.
 fn codes_undone(
-    frame: Option<Frame>,
-    start: Place,
+    frame: Option<FrameRegister>,
+    start: RegisterOffset,
     offset: Option<u32>,
     codes: &[UnwindCode],
     unwound: Unwound,
@@ -314,7 +319,7 @@ fn any_sets_frame(offset: Option<u32>, codes: &[UnwindCode]) -> bool
 }
 
 // The place that a frame with this register begins at, once the register is set.
-fn start_once(frame: Option<Frame>, set: bool) -> Place
+fn start_once(frame: Option<FrameRegister>, set: bool) -> RegisterOffset
     ensures { result ≡ start_once frame set }
 {
     match frame {
@@ -324,7 +329,7 @@ fn start_once(frame: Option<Frame>, set: bool) -> Place
 }
 
 // The place that SAVE codes count from.
-fn saves_from(offset: Option<u32>, info: &UnwindInfo) -> Place
+fn saves_from(offset: Option<u32>, info: &UnwindInfo) -> RegisterOffset
     ensures { result ≡ saves_from offset info.now }
 {
     let set = offset.is_none() || info.parent.is_some() || any_sets_frame(offset, &info.codes);
@@ -356,7 +361,7 @@ fn parents_undone(parents: &[UnwindInfo], unwound: Unwound) -> Unwound
 }
 
 /// Whether two places are the same.
-pub(crate) fn is_same_place(a: Option<Place>, b: Option<Place>) -> bool
+pub(crate) fn is_same_place(a: Option<RegisterOffset>, b: Option<RegisterOffset>) -> bool
     ensures { IsTrue result ↔ (a ≡ b) }
 {
     match (a, b) {
@@ -367,7 +372,7 @@ pub(crate) fn is_same_place(a: Option<Place>, b: Option<Place>) -> bool
 }
 
 // Whether the same registers are saved at the same places.
-fn is_same_saved(a: &[Option<Place>], b: &[Option<Place>]) -> bool
+fn is_same_saved(a: &[Option<RegisterOffset>], b: &[Option<RegisterOffset>]) -> bool
     ensures { IsTrue result → a.now ≡ b.now }
 {
     if a.len() != b.len() {
@@ -392,7 +397,7 @@ fn is_same_cfa(a: Cfa, b: Cfa) -> bool
 }
 
 // Whether the return address is at the same place.
-fn is_same_return(a: Place, b: Place) -> bool
+fn is_same_return(a: RegisterOffset, b: RegisterOffset) -> bool
     ensures { IsTrue result → a ≡ b }
 {
     a == b

@@ -1,12 +1,12 @@
 //! Unwind codes: what the instructions of a function's prologue did, from the last one to the first.
 
 ghost use Rattle.std.specs.Prelude.{◌≡◌, ◌≤◌, ◌<◌, IfSome};
-ghost use Rattle.pe_unwind.specs.Faults.{Gives};
+ghost use Rattle.pe_unwind.specs.UnwindErrors.{Gives};
 ghost use Rattle.pe_unwind.specs.UnwindCodes.{code_of, first_code, large_operand, operation_of, slot_count};
 ghost use Rattle.pe_unwind.specs.UnwindCodes.{small_operand, unwind_codes};
 
-use crate::faults::{Refusal, UnwindFault};
 use crate::registers::{Register, numbered};
+use crate::unwind_errors::{EntryError, UnwindError};
 use pe_image::{u16_at, u32_at};
 use std::alloc::Global;
 
@@ -65,7 +65,7 @@ pub(crate) fn unwind_codes(
     alloc: Global,
     version: u8,
     bytes: &[u8],
-) -> Result<Vec<UnwindCode>, UnwindFault>
+) -> Result<Vec<UnwindCode>, UnwindError>
     ensures answer { Gives (λ codes. codes.items) result (unwind_codes version bytes.now) }
 {
     let mut codes = Vec::new(alloc);
@@ -82,24 +82,24 @@ pub(crate) fn unwind_codes(
 }
 
 // The code at the front, and the bytes behind it.
-fn first_code(version: u8, bytes: &[u8]) -> Result<(UnwindCode, &[u8]), UnwindFault>
+fn first_code(version: u8, bytes: &[u8]) -> Result<(UnwindCode, &[u8]), UnwindError>
     ensures { Gives (λ read. (read.0, read.1.now)) result (first_code version bytes.now) }
 {
     let kind = bytes.get(1).copied().unwrap_or(0);
     let Some(count) = slot_count(version, kind % 16, kind / 16) else {
-        return Err(UnwindFault::Refused(Refusal::UnknownCode));
+        return Err(UnwindError::Refused(EntryError::UnknownCode));
     };
     code_of(bytes, count)
 }
 
 // The code that takes so many slots at the front, and the bytes behind it.
-fn code_of(bytes: &[u8], count: usize) -> Result<(UnwindCode, &[u8]), UnwindFault>
+fn code_of(bytes: &[u8], count: usize) -> Result<(UnwindCode, &[u8]), UnwindError>
     requires some { 1 ≤ count }
     requires few { count ≤ 3 }
     ensures { Gives (λ read. (read.0, read.1.now)) result (code_of bytes.now count) }
 {
     if bytes.len() < 2 * count {
-        return Err(UnwindFault::Refused(Refusal::CodesCut));
+        return Err(UnwindError::Refused(EntryError::CodesCut));
     }
     let (_, rest) = bytes.split_at(2 * count);
     let (_, operands) = bytes.split_at(2);
@@ -114,7 +114,7 @@ fn code_of(bytes: &[u8], count: usize) -> Result<(UnwindCode, &[u8]), UnwindFaul
 fn slot_count(version: u8, kind: u8, info: u8) -> Option<usize>
     ensures answer { result ≡ slot_count version kind info }
     ensures some { IfSome result (λ count. 1 ≤ count) }
-    ensures few { IfSome result (λ count. count ≤ 3) }
+    ensures bound { IfSome result (λ count. count ≤ 3) }
 {
     match kind {
         UWOP_PUSH_NONVOL | UWOP_ALLOC_SMALL | UWOP_SET_FPREG | UWOP_PUSH_MACHFRAME => Some(1),

@@ -1,13 +1,13 @@
 //! UNWIND_INFO: what the unwind info of a function says, and the infos that it is chained to.
 
 ghost use Rattle.std.specs.Prelude.{◌≡◌, ◌≤◌, length};
-ghost use Rattle.pe_unwind.specs.Faults.{Gives};
+ghost use Rattle.pe_unwind.specs.UnwindErrors.{Gives};
 ghost use Rattle.pe_unwind.specs.UnwindInfo.{code_bytes, frame_of, info_address, info_at, info_in, parent_at};
 ghost use Rattle.pe_unwind.specs.UnwindInfo.{parent_of, parents_of};
 
-use crate::faults::{Refusal, UnwindFault};
 use crate::registers::{Register, numbered};
 use crate::unwind_codes::{UnwindCode, unwind_codes};
+use crate::unwind_errors::{EntryError, UnwindError};
 use pe_image::{Image, function_entry_at};
 use std::alloc::Global;
 use std::marker::Model;
@@ -23,7 +23,7 @@ const MOST_PARENTS: usize = 32;
 
 /// The register that a function addresses its frame by.
 #[derive(Debug, Clone, Copy, PartialEq, Eq)]
-pub struct Frame {
+pub struct FrameRegister {
     pub register: Register,
     /// How far above the frame's base the register points, in bytes.
     pub offset: u8,
@@ -36,7 +36,7 @@ pub struct UnwindInfo {
     pub version: u8,
     /// The size of the prologue in bytes.
     pub prologue_size: u8,
-    pub frame: Option<Frame>,
+    pub frame: Option<FrameRegister>,
     /// The codes, as they are listed: that of the last instruction first.
     pub codes: Vec<UnwindCode>,
     /// The address of the info that this one is chained to, relative to the image base.
@@ -63,7 +63,7 @@ pub(crate) fn parents_of(
     alloc: Global,
     image: &Image<'_>,
     parent: Option<u32>,
-) -> Result<Vec<UnwindInfo>, UnwindFault>
+) -> Result<Vec<UnwindInfo>, UnwindError>
     ensures answer { Gives (λ parents. parents.items) result (parents_of image.now parent) }
 {
     let mut parents = Vec::new(alloc);
@@ -77,14 +77,14 @@ pub(crate) fn parents_of(
         parents.push(info)?;
     }
     if next.is_some() {
-        return Err(UnwindFault::Refused(Refusal::ChainTooLong));
+        return Err(UnwindError::Refused(EntryError::ChainTooLong));
     }
     Ok(parents)
 }
 
 /// What the info says that an entry leads to.
 #[tactic(auto, unfolding(crate::specs::UnwindInfo::info_at))]
-pub(crate) fn info_at(alloc: Global, image: &Image<'_>, rva: u32) -> Result<UnwindInfo, UnwindFault>
+pub(crate) fn info_at(alloc: Global, image: &Image<'_>, rva: u32) -> Result<UnwindInfo, UnwindError>
     ensures answer { Gives (λ info. info) result (info_at image.now rva) }
 {
     let address = info_address(image, rva)?;
@@ -92,7 +92,7 @@ pub(crate) fn info_at(alloc: Global, image: &Image<'_>, rva: u32) -> Result<Unwi
 }
 
 // The address of the info that an entry leads to.
-fn info_address(image: &Image<'_>, rva: u32) -> Result<u32, UnwindFault>
+fn info_address(image: &Image<'_>, rva: u32) -> Result<u32, UnwindError>
     ensures answer { Gives (λ address. address) result (info_address image.now rva) }
 {
     if rva % 2 == 0 {
@@ -100,21 +100,21 @@ fn info_address(image: &Image<'_>, rva: u32) -> Result<u32, UnwindFault>
     }
     let entry = image.bytes_from(rva - 1);
     if entry.len() < ENTRY {
-        return Err(UnwindFault::Refused(Refusal::InfoOutsideOfImage));
+        return Err(UnwindError::Refused(EntryError::InfoOutsideOfImage));
     }
     Ok(function_entry_at(entry).info)
 }
 
 // What the info says that begins with these bytes.
-fn info_in(alloc: Global, bytes: &[u8]) -> Result<UnwindInfo, UnwindFault>
+fn info_in(alloc: Global, bytes: &[u8]) -> Result<UnwindInfo, UnwindError>
     ensures answer { Gives (λ info. info) result (info_in bytes.now) }
 {
     if bytes.len() < HEADER {
-        return Err(UnwindFault::Refused(Refusal::InfoOutsideOfImage));
+        return Err(UnwindError::Refused(EntryError::InfoOutsideOfImage));
     }
     let version = bytes[0] % 8;
     if version != 1 && version != 2 {
-        return Err(UnwindFault::Refused(Refusal::UnknownVersion));
+        return Err(UnwindError::Refused(EntryError::UnknownVersion));
     }
     let slots = code_bytes(bytes)?;
     let codes = unwind_codes(alloc, version, slots)?;
@@ -129,26 +129,26 @@ fn info_in(alloc: Global, bytes: &[u8]) -> Result<UnwindInfo, UnwindFault>
 }
 
 // The frame register, by the byte that has it.
-fn frame_of(byte: u8) -> Option<Frame>
+fn frame_of(byte: u8) -> Option<FrameRegister>
     ensures answer { result ≡ frame_of byte }
 {
     if byte % 16 == 0 {
         return None;
     }
-    Some(Frame {
+    Some(FrameRegister {
         register: numbered(usize::from(byte % 16)),
         offset: byte / 16 * 16,
     })
 }
 
 // The bytes of the codes.
-fn code_bytes(bytes: &[u8]) -> Result<&[u8], UnwindFault>
+fn code_bytes(bytes: &[u8]) -> Result<&[u8], UnwindError>
     requires { 4 ≤ length bytes.now }
     ensures answer { Gives (λ slots. slots.now) result (code_bytes bytes.now) }
 {
     let size = 2 * usize::from(bytes[2]);
     if bytes.len() < HEADER + size {
-        return Err(UnwindFault::Refused(Refusal::CodesCut));
+        return Err(UnwindError::Refused(EntryError::CodesCut));
     }
     let (_, rest) = bytes.split_at(HEADER);
     let (slots, _) = rest.split_at(size);
@@ -165,7 +165,7 @@ fn parent_at(slots: u8) -> usize
 }
 
 // The address of the info that this one is chained to.
-fn parent_of(bytes: &[u8]) -> Result<Option<u32>, UnwindFault>
+fn parent_of(bytes: &[u8]) -> Result<Option<u32>, UnwindError>
     requires { 4 ≤ length bytes.now }
     ensures answer { Gives (λ parent. parent) result (parent_of bytes.now) }
 {
@@ -174,7 +174,7 @@ fn parent_of(bytes: &[u8]) -> Result<Option<u32>, UnwindFault>
     }
     let at = parent_at(bytes[2]);
     if bytes.len() < at + ENTRY {
-        return Err(UnwindFault::Refused(Refusal::InfoOutsideOfImage));
+        return Err(UnwindError::Refused(EntryError::InfoOutsideOfImage));
     }
     let (_, entry) = bytes.split_at(at);
     Ok(Some(function_entry_at(entry).info))

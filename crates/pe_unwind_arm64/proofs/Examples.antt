@@ -11,18 +11,18 @@ use Rattle.pe_unwind_arm64.specs.PackedData.{as_codes, packed_info}
 use Rattle.pe_unwind_arm64.specs.Registers.{index}
 use Rattle.pe_unwind_arm64.specs.UnwindCodes.{codes_in, next_operation}
 use Rattle.pe_unwind_arm64.specs.UnwindInfo.{Info, header_in, info_in, scopes_in}
-use Rattle.pe_unwind_arm64.specs.declared.cfi_records.Found.TheVariants.{At}
-use Rattle.pe_unwind_arm64.specs.declared.cfi_records.Item.TheVariants.{RegisterItem}
-use Rattle.pe_unwind_arm64.specs.declared.faults.Refusal.TheVariants.{AnyRegister, CodesCut, CustomStack}
-use Rattle.pe_unwind_arm64.specs.declared.faults.Refusal.TheVariants.{EpilogueOutsideOfFunction, EpiloguesOverlap}
-use Rattle.pe_unwind_arm64.specs.declared.faults.Refusal.TheVariants.{FrameLost, InfoOutsideOfImage, NextOfNoPair}
-use Rattle.pe_unwind_arm64.specs.declared.faults.Refusal.TheVariants.{PackedFrame, PackedRegisters, ScalableVectors}
-use Rattle.pe_unwind_arm64.specs.declared.faults.Refusal.TheVariants.{UnknownCode, UnknownRegister, UnknownVersion}
-use Rattle.pe_unwind_arm64.specs.declared.registers.Base.TheVariants.{Fp, Sp}
+use Rattle.pe_unwind_arm64.specs.declared.cfi_records.RegisterRule.TheVariants.{At}
+use Rattle.pe_unwind_arm64.specs.declared.cfi_records.CfiItem.TheVariants.{RegisterItem}
+use Rattle.pe_unwind_arm64.specs.declared.unwind_errors.EntryError.TheVariants.{AnyRegister, CodesCut, CustomStack}
+use Rattle.pe_unwind_arm64.specs.declared.unwind_errors.EntryError.TheVariants.{EpilogueOutsideOfFunction, EpiloguesOverlap}
+use Rattle.pe_unwind_arm64.specs.declared.unwind_errors.EntryError.TheVariants.{FrameLost, InfoOutsideOfImage, NextOfNoPair}
+use Rattle.pe_unwind_arm64.specs.declared.unwind_errors.EntryError.TheVariants.{PackedFrame, PackedRegisters, ScalableVectors}
+use Rattle.pe_unwind_arm64.specs.declared.unwind_errors.EntryError.TheVariants.{UnknownCode, UnknownRegister, UnknownVersion}
+use Rattle.pe_unwind_arm64.specs.declared.registers.BaseRegister.TheVariants.{Fp, Sp}
 use Rattle.pe_unwind_arm64.specs.declared.registers.Register.{Register}
 use Rattle.pe_unwind_arm64.specs.declared.registers.Register.TheVariants.{X19, X20, X21, X22, X23, X24, X25}
 use Rattle.pe_unwind_arm64.specs.declared.registers.Register.TheVariants.{X27, X29, X30}
-use Rattle.pe_unwind_arm64.specs.declared.rules.Place.{Place}
+use Rattle.pe_unwind_arm64.specs.declared.rules.RegisterOffset.{RegisterOffset}
 use Rattle.pe_unwind_arm64.specs.declared.rules.Rules.{Rules}
 use Rattle.pe_unwind_arm64.specs.declared.unwind_codes.Operation.{Operation}
 use Rattle.pe_unwind_arm64.specs.declared.unwind_codes.Operation.TheVariants.{AddFrame, Allocate, End, EndChained, Push}
@@ -36,24 +36,24 @@ abbrev code : ℕ → Operation → UnwindCode
 code number operation = record { index = number; operation = operation }
 
 -- places above where sp and where x29 point
-abbrev stack : ℕ → Place
+abbrev stack : ℕ → RegisterOffset
 stack offset = record { base = Sp; offset = offset }
 
-abbrev frame : ℕ → Place
+abbrev frame : ℕ → RegisterOffset
 frame offset = record { base = Fp; offset = offset }
 
 -- no register is stored; one more is
-abbrev none : List (Option Place)
+abbrev none : List (Option RegisterOffset)
 none = replicate 12 None
 
-abbrev saved : Register → Place → List (Option Place) → List (Option Place)
+abbrev saved : Register → RegisterOffset → List (Option RegisterOffset) → List (Option RegisterOffset)
 saved register place registers = slice_set registers (index register) (Some place)
 
 -- rules with x30 unchanged, and with x30 stored at a place
-abbrev unlinked : Place → List (Option Place) → Rules
+abbrev unlinked : RegisterOffset → List (Option RegisterOffset) → Rules
 unlinked cfa registers = record { cfa = cfa; return_address = None; saved = registers }
 
-abbrev linked : Place → Place → List (Option Place) → Rules
+abbrev linked : RegisterOffset → RegisterOffset → List (Option RegisterOffset) → Rules
 linked cfa link registers = record { cfa = cfa; return_address = Some link; saved = saved X30 link registers }
 
 -- each form of code
@@ -79,14 +79,14 @@ long_codes : codes_in (0xc1 ∷ 0x02 ∷ 0xe0 ∷ 0x01 ∷ 0x02 ∷ 0x03 ∷ 0xe
 unfolding codes_in
 long_codes = refl
 
--- stp x19, x20, [sp, #-112]!, and the stores of the pairs up to x27 and x28 behind it
+-- stp x19, x20, [sp, #-112]!, and the stores of the pairs up to x27 and x28 after it
 next_codes : codes_in (0xe6 ∷ 0xe6 ∷ 0xe6 ∷ 0xe6 ∷ 0x2e ∷ [])
     ≡ code 0 (SavePair X27 64) ∷ code 1 (SavePair X25 48) ∷ code 2 (SavePair X23 32) ∷ code 3 (SavePair X21 16)
     ∷ code 4 (PushPair X19 112) ∷ []
 unfolding codes_in next_operation
 next_codes = refl
 
--- stp x20, x21, [sp, #16], and a pair behind it; a pair of d registers; x30 has no pair behind it, and none is behind x28
+-- stp x20, x21, [sp, #16], and a pair after it; a pair of d registers; x30 has no pair after it, and none is after x28
 next_of_others : codes_in (0xe6 ∷ 0xc8 ∷ 0x42 ∷ 0xe6 ∷ 0xd8 ∷ 0x82 ∷ 0xe6 ∷ 0x45 ∷ 0xe6 ∷ 0xca ∷ 0x02 ∷ 0xe6 ∷ [])
     ≡ code 0 (SavePair X22 32) ∷ code 1 (SavePair X20 16) ∷ code 3 SaveFloats ∷ code 4 SaveFloats
     ∷ code 6 (Unusable NextOfNoPair) ∷ code 7 (SavePair X29 40) ∷ code 8 (Unusable NextOfNoPair)
@@ -94,7 +94,7 @@ next_of_others : codes_in (0xe6 ∷ 0xc8 ∷ 0x42 ∷ 0xe6 ∷ 0xd8 ∷ 0x82 ∷
 unfolding codes_in next_operation
 next_of_others = refl
 
--- codes that can't be undone: registers behind x30, alloc_z, save_any_reg, trap_frame, clear_unwound_to_call, one without
+-- codes that can't be undone: registers after x30, alloc_z, save_any_reg, trap_frame, clear_unwound_to_call, one without
 -- a meaning, and one that is cut
 unusable_codes : codes_in (0xcb ∷ 0x3f ∷ 0xd7 ∷ 0xff ∷ 0xdf ∷ 1 ∷ 0xe7 ∷ 1 ∷ 2 ∷ 0xe8 ∷ 0xec ∷ 0xed ∷ 0xc8 ∷ [])
     ≡ code 0 (Unusable UnknownRegister) ∷ code 2 (Unusable UnknownRegister) ∷ code 4 (Unusable ScalableVectors)
@@ -127,7 +127,7 @@ unfolding codes_in scopes_in
 two_is_read = refl
 
 -- x19 and x20 at places of their own, and x29
-abbrev first_pair : Place → Place → List (Option Place)
+abbrev first_pair : RegisterOffset → RegisterOffset → List (Option RegisterOffset)
 first_pair one other = saved X20 other (saved X19 one none)
 
 two_start : rule_at two 0 ≡ unlinked (stack 0) none
@@ -143,8 +143,8 @@ two_within_the_add : rule_at two 15
 unfolding rules_before
 two_within_the_add = refl
 
--- behind the add the places are counted from x29, but that of x25 by the code in front
-abbrev by_frame : List (Option Place)
+-- after the add the places are counted from x29, but that of x25 by the code in front
+abbrev by_frame : List (Option RegisterOffset)
 by_frame = saved X29 (frame 0) (first_pair (frame (2 ^ 64 - 16)) (frame (2 ^ 64 - 8)))
 
 two_body : rule_at two 20 ≡ linked (frame 32) (frame 8) (saved X25 (stack 48) by_frame)
@@ -211,7 +211,7 @@ extended_header_is_read : header_in (0x17 ∷ 0 ∷ 0 ∷ 0 ∷ 0x2c ∷ 1 ∷ 6
 extended_header_is_read = refl
 
 -- infos that are refused: of version 1; without codes; with an index that no code has, and one in the midst of a code;
--- with an epilogue behind the function's end; with one before the end of another; with x29 stored when it is set already
+-- with an epilogue after the function's end; with one before the end of another; with x29 stored when it is set already
 version_1 : info_in (0x17 ∷ 0 ∷ 4 ∷ 8 ∷ 0xe4 ∷ 0xe3 ∷ 0xe3 ∷ 0xe3 ∷ []) ≡ Err UnknownVersion
 version_1 = refl
 
@@ -247,7 +247,7 @@ frame_stored_late : info_in (9 ∷ 0 ∷ 0 ∷ 8 ∷ 0x45 ∷ 0xe1 ∷ 8 ∷ 0xe
 unfolding codes_in
 frame_stored_late = refl
 
--- packed data: str x30, [sp, #64] behind stp x25, x26, [sp, #48] .. stp x19, x20, [sp, #-80]!
+-- packed data: str x30, [sp, #64] after stp x25, x26, [sp, #48] .. stp x19, x20, [sp, #-80]!
 eight_registers : prologue_part (packed_of 0x02a801a1)
     ≡ Save X30 64 ∷ SavePair X25 48 ∷ SavePair X23 32 ∷ SavePair X21 16 ∷ PushPair X19 80 ∷ []
 eight_registers = refl
@@ -325,7 +325,7 @@ one_with_link = refl
 no_frame : packed_info (packed_of 0x00020041) 16 ≡ Err PackedFrame
 no_frame = refl
 
--- the text of the lines of a function that does stp x29, x30, [sp, #-16]!, and of the line behind its load
+-- the text of the lines of a function that does stp x29, x30, [sp, #-16]!, and of the line after its load
 abbrev framed : Rules
 framed = linked (stack 16) (stack 8) (saved X29 (stack 0) none)
 

@@ -11,7 +11,7 @@ use Rattle.pe_unwind_arm64.proofs.LineLemmas.{plain_rules}
 use Rattle.pe_unwind_arm64.specs.Canonical.{prologue_part}
 use Rattle.pe_unwind_arm64.specs.Epilogues.{AreOutside, InOrder, epilogue_with, epilogues_left, last_epilogue, last_with}
 use Rattle.pe_unwind_arm64.specs.Epilogues.{own_count}
-use Rattle.pe_unwind_arm64.specs.Faults.{◌>>=◌, behind}
+use Rattle.pe_unwind_arm64.specs.UnwindErrors.{◌>>=◌, behind}
 use Rattle.pe_unwind_arm64.specs.Functions.{Function, body_rules, epilogue_rules, function_at, info_of, is_begun}
 use Rattle.pe_unwind_arm64.specs.Functions.{length_at, rules_before, rules_by}
 use Rattle.pe_unwind_arm64.specs.Packed.{packed_length, packed_of, saved_size}
@@ -21,30 +21,30 @@ use Rattle.pe_unwind_arm64.specs.UnwindCodes.{codes_from, codes_in}
 use Rattle.pe_unwind_arm64.specs.UnwindInfo.{Info, epilogues_by, first_scope, header_in, info_by, info_in, scope_bytes}
 use Rattle.pe_unwind_arm64.specs.UnwindInfo.{scope_of, scopes_in, scopes_up_to}
 use Rattle.pe_unwind_arm64.specs.declared.epilogues.Epilogue.{Epilogue}
-use Rattle.pe_unwind_arm64.specs.declared.faults.Refusal.{Refusal}
-use Rattle.pe_unwind_arm64.specs.declared.faults.Refusal.TheVariants.{CodesCut, EpilogueOutsideOfFunction}
-use Rattle.pe_unwind_arm64.specs.declared.faults.Refusal.TheVariants.{EpiloguesOverlap, InfoOutsideOfImage, PackedFrame}
-use Rattle.pe_unwind_arm64.specs.declared.faults.Refusal.TheVariants.{PackedRegisters, ReservedFlag}
+use Rattle.pe_unwind_arm64.specs.declared.unwind_errors.EntryError.{EntryError}
+use Rattle.pe_unwind_arm64.specs.declared.unwind_errors.EntryError.TheVariants.{CodesCut, EpilogueOutsideOfFunction}
+use Rattle.pe_unwind_arm64.specs.declared.unwind_errors.EntryError.TheVariants.{EpiloguesOverlap, InfoOutsideOfImage, PackedFrame}
+use Rattle.pe_unwind_arm64.specs.declared.unwind_errors.EntryError.TheVariants.{PackedRegisters, ReservedFlag}
 use Rattle.pe_unwind_arm64.specs.declared.packed_data.Packed.{Packed}
 use Rattle.pe_unwind_arm64.specs.declared.unwind_codes.UnwindCode.{UnwindCode}
 use Rattle.pe_unwind_arm64.specs.declared.unwind_info.Header.{Header}
 
 -- where something was computed from a value, the value was there
-pub bind_ok : {A B : Type 0} (first : Result A Refusal) (next : A → Result B Refusal) (y : B)
+pub bind_ok : {A B : Type 0} (first : Result A EntryError) (next : A → Result B EntryError) (y : B)
     → (first >>= next) ≡ Ok y → (x : A) × (first ≡ Ok x) × (next x ≡ Ok y)
 bind_ok (Ok x) next y is = (x, refl, is)
 bind_ok (Err refusal) next y is = cc
 
 -- an offset of an epilogue that may be refused
-abbrev start_of : Result Epilogue Refusal → ℕ
+abbrev start_of : Result Epilogue EntryError → ℕ
 start_of (Ok epilogue) = epilogue.start
 start_of (Err refusal) = 0
 
-abbrev end_of : Result Epilogue Refusal → ℕ
+abbrev end_of : Result Epilogue EntryError → ℕ
 end_of (Ok epilogue) = epilogue.end
 end_of (Err refusal) = 0
 
--- an epilogue begins at or behind the end of the one before it, and isn't empty
+-- an epilogue begins at or after the end of the one before it, and isn't empty
 epilogue_order : (reach length start index count : ℕ) (epilogue : Epilogue)
     → epilogue_with reach length start index count ≡ Ok epilogue
     → (reach ≤ epilogue.start) × (epilogue.start < epilogue.end)
@@ -64,7 +64,7 @@ epilogue_order reach length start index count epilogue is =
         (omega arith, omega arith)
 
 -- the items of a list that may be refused
-abbrev items_of : Result (List Epilogue) Refusal → List Epilogue
+abbrev items_of : Result (List Epilogue) EntryError → List Epilogue
 items_of (Ok items) = items
 items_of (Err refusal) = []
 
@@ -108,7 +108,7 @@ last_order length index count epilogue is = by_test (nat_lt length (count + 1)) 
         let room : count + 1 ≤ length = grind (arith, nat_tests) in
         omega arith
 
--- all epilogues behind one in order begin at or behind its end
+-- all epilogues after one in order begin at or after its end
 reach_of : (reach : ℕ) (before after : List Epilogue) (epilogue : Epilogue)
     → InOrder reach (before ++ epilogue ∷ after) → reach ≤ epilogue.start
 reach_of reach [] after epilogue order = order.0
@@ -129,7 +129,7 @@ first_left reach offset (first ∷ before) after epilogue order from to =
     ap (λ t. cond t (epilogues_left offset (before ++ epilogue ∷ after)) (first ∷ before ++ epilogue ∷ after)) ended
     ∙ first_left first.end offset before after epilogue order.1.1 from to
 
--- behind the prologue, the rules at an offset in an epilogue are that epilogue's
+-- after the prologue, the rules at an offset in an epilogue are that epilogue's
 pub rules_within : (info : Info) (offset : ℕ) (before after : List Epilogue) (epilogue : Epilogue)
     → InOrder 0 info.epilogues → info.epilogues ≡ before ++ epilogue ∷ after → info.prologue ≤ offset
     → epilogue.start ≤ offset → offset < epilogue.end
@@ -162,7 +162,7 @@ none_begun offset (epilogue ∷ epilogues) outside =
         let not_in = outside.0 late in
         grind (arith, nat_tests, not_in)
 
--- behind the prologue, the rules at an offset in no epilogue are those of the body
+-- after the prologue, the rules at an offset in no epilogue are those of the body
 pub rules_outside : (info : Info) (offset : ℕ) → info.prologue ≤ offset → AreOutside offset info.epilogues
     → rules_before info offset ≡ body_rules info
 unfolding rules_before
@@ -177,7 +177,7 @@ rules_outside info offset behind_prologue outside =
     is_plain_by false begun is isnt = cc
 
 -- the epilogues of an info that may be refused
-abbrev listed_by : Result Info Refusal → List Epilogue
+abbrev listed_by : Result Info EntryError → List Epilogue
 listed_by (Ok info) = info.epilogues
 listed_by (Err refusal) = []
 
@@ -271,7 +271,7 @@ info_order program unwind info is = by_test (unwind % 4 == 0) (unwind % 4 == 3) 
     by_test false false given = packed_order (packed_of unwind) (packed_length unwind) info given
 
 -- the info of a function that may be refused
-abbrev info_by_function : Result Function Refusal → List Epilogue
+abbrev info_by_function : Result Function EntryError → List Epilogue
 info_by_function (Ok function) = function.info.epilogues
 info_by_function (Err refusal) = []
 

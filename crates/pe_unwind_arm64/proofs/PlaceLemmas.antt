@@ -3,15 +3,15 @@ use Rattle.std.proofs.Common.{◌≡◌, ◌<◌, ◌^◌, ℕ, Bool, true, fals
 use Rattle.pe_unwind_arm64.proofs.RecordLemmas.{base_sound}
 use Rattle.pe_unwind_arm64.specs.CfiRecords.{place_by, place_known, same_base}
 use Rattle.pe_unwind_arm64.specs.Rules.{less}
-use Rattle.pe_unwind_arm64.specs.declared.cfi_records.Found.TheVariants.{At, BelowCfa}
-use Rattle.pe_unwind_arm64.specs.declared.rules.Place.{Place}
+use Rattle.pe_unwind_arm64.specs.declared.cfi_records.RegisterRule.TheVariants.{At, BelowCfa}
+use Rattle.pe_unwind_arm64.specs.declared.rules.RegisterOffset.{RegisterOffset}
 
 -- what is so far below an address as another is that other
 less_less : (a b : ℕ) → a < 2 ^ 64 → b < 2 ^ 64 → less a (less a b) ≡ b
 less_less a b a_fits b_fits = omega arith
 
 -- a record keeps a place
-pub place_kept : (cfa place : Place) → cfa.offset < 2 ^ 64 → place.offset < 2 ^ 64
+pub place_kept : (cfa place : RegisterOffset) → cfa.offset < 2 ^ 64 → place.offset < 2 ^ 64
     → place_known cfa (place_by cfa place) ≡ Some place
 place_kept cfa place fits place_fits = by_test (same_base cfa place) refl
   where

@@ -1,4 +1,4 @@
--- What a reader of records knows behind them.
+-- What a reader of records knows after them.
 use Rattle.std.proofs.Common.{◌≡◌, ◌<◌, ◌+◌, ℕ, zero, suc, Bool, true, false, cond, List, [], ◌∷◌, ◌++◌, length}
 use Rattle.std.proofs.Common.{Option, Some, None, Result, Ok, Err, refl, ap, ◌∙◌, sym, length-append}
 use Rattle.std.proofs.Common.{arith}
@@ -13,14 +13,14 @@ use Rattle.pe_unwind_arm64.specs.CfiRecords.{register_items, same_base, same_fou
 use Rattle.pe_unwind_arm64.specs.Functions.{Function, rule_at}
 use Rattle.pe_unwind_arm64.specs.Registers.{base_number, index, register}
 use Rattle.pe_unwind_arm64.specs.declared.cfi_lines.CfiLine.{CfiLine}
-use Rattle.pe_unwind_arm64.specs.declared.cfi_records.Found.{Found}
-use Rattle.pe_unwind_arm64.specs.declared.cfi_records.Found.TheVariants.{At, BelowCfa, Unchanged}
-use Rattle.pe_unwind_arm64.specs.declared.cfi_records.Item.{Item}
-use Rattle.pe_unwind_arm64.specs.declared.cfi_records.Item.TheVariants.{CfaItem, RegisterItem, ReturnItem}
-use Rattle.pe_unwind_arm64.specs.declared.faults.Refusal.{Refusal}
-use Rattle.pe_unwind_arm64.specs.declared.registers.Base.{Base}
-use Rattle.pe_unwind_arm64.specs.declared.registers.Base.TheVariants.{Fp, Sp}
-use Rattle.pe_unwind_arm64.specs.declared.rules.Place.{Place}
+use Rattle.pe_unwind_arm64.specs.declared.cfi_records.RegisterRule.{RegisterRule}
+use Rattle.pe_unwind_arm64.specs.declared.cfi_records.RegisterRule.TheVariants.{At, BelowCfa, Unchanged}
+use Rattle.pe_unwind_arm64.specs.declared.cfi_records.CfiItem.{CfiItem}
+use Rattle.pe_unwind_arm64.specs.declared.cfi_records.CfiItem.TheVariants.{CfaItem, RegisterItem, ReturnItem}
+use Rattle.pe_unwind_arm64.specs.declared.unwind_errors.EntryError.{EntryError}
+use Rattle.pe_unwind_arm64.specs.declared.registers.BaseRegister.{BaseRegister}
+use Rattle.pe_unwind_arm64.specs.declared.registers.BaseRegister.TheVariants.{Fp, Sp}
+use Rattle.pe_unwind_arm64.specs.declared.rules.RegisterOffset.{RegisterOffset}
 use Rattle.pe_unwind_arm64.specs.declared.rules.Rules.{Rules}
 
 -- the number of the register with a number below 12 is that number
@@ -49,20 +49,20 @@ both false b is = cc
 same_number : (a b : ℕ) → (a == b) ≡ true → a ≡ b
 same_number a b is = grind (arith, nat_tests)
 
-pub base_sound : (a b : Base) → (base_number a == base_number b) ≡ true → a ≡ b
+pub base_sound : (a b : BaseRegister) → (base_number a == base_number b) ≡ true → a ≡ b
 base_sound Sp Sp is = refl
 base_sound Sp Fp is = cc
 base_sound Fp Sp is = cc
 base_sound Fp Fp is = refl
 
-place_sound : (a b : Place) → same_place a b ≡ true → a ≡ b
+place_sound : (a b : RegisterOffset) → same_place a b ≡ true → a ≡ b
 place_sound a b is =
     let parts = both (same_base a b) (a.offset == b.offset) is in
     let first : a ≡ record b { offset = a.offset }
     = ap (λ x. record a { base = x }) (base_sound a.base b.base parts.0) in
     first ∙ ap (λ x. record b { offset = x }) (same_number a.offset b.offset parts.1)
 
-found_sound : (a b : Found) → same_found a b ≡ true → a ≡ b
+found_sound : (a b : RegisterRule) → same_found a b ≡ true → a ≡ b
 found_sound Unchanged Unchanged is = refl
 found_sound Unchanged (BelowCfa b) is = cc
 found_sound Unchanged (At b) is = cc
@@ -74,24 +74,24 @@ found_sound (At a) (BelowCfa b) is = cc
 found_sound (At a) (At b) is = ap At (place_sound a b is)
 
 -- items one after the other
-items_read-append : (xs ys : List Item) (known : Written)
+items_read-append : (xs ys : List CfiItem) (known : Written)
     → items_read (xs ++ ys) known ≡ items_read ys (items_read xs known)
 items_read-append [] ys known = refl
 items_read-append (x ∷ xs) ys known = items_read-append xs ys (item_read x known)
 
--- a write at the place behind the front of a list
-set_behind : (front rest : List Found) (old new : Found)
+-- a write at the place after the front of a list
+set_behind : (front rest : List RegisterRule) (old new : RegisterRule)
     → slice_set (front ++ old ∷ rest) (length front) new ≡ front ++ new ∷ rest
 set_behind [] rest old new = refl
 set_behind (x ∷ front) rest old new = ap (λ xs. x ∷ xs) (set_behind front rest old new)
 
--- one register more behind the front
-one_more : (front rest : List Found) (x : Found) → front ++ x ∷ rest ≡ (front ++ x ∷ []) ++ rest
+-- one register more after the front
+one_more : (front rest : List RegisterRule) (x : RegisterRule) → front ++ x ∷ rest ≡ (front ++ x ∷ []) ++ rest
 one_more [] rest x = refl
 one_more (y ∷ front) rest x = ap (λ xs. y ∷ xs) (one_more front rest x)
 
--- behind the items of the registers that change, all are known
-registers_read : (n : ℕ) (known : Written) (front olds news : List Found) → length front ≡ n
+-- after the items of the registers that change, all are known
+registers_read : (n : ℕ) (known : Written) (front olds news : List RegisterRule) → length front ≡ n
     → length olds ≡ length news → n + length olds ≡ 12
     → items_read (register_items n olds news) (record known { registers = front ++ olds })
     ≡ record known { registers = front ++ news }
@@ -104,7 +104,7 @@ registers_read n known front (old ∷ olds) (new ∷ news) at same sum =
     (omega arith) (omega arith))
   where
     by_test : (t : Bool) → same_found old new ≡ t
-        → ((x : Found) → items_read (register_items (n + 1) olds news)
+        → ((x : RegisterRule) → items_read (register_items (n + 1) olds news)
         (record known { registers = (front ++ x ∷ []) ++ olds })
         ≡ record known { registers = (front ++ x ∷ []) ++ news })
         → items_read (if_changed t (RegisterItem (register n) new) ++ register_items (n + 1) olds news)
@@ -122,8 +122,8 @@ registers_read n known front (old ∷ olds) (new ∷ news) at same sum =
         ∙ one_more front olds new)
         ∙ others new ∙ ap (λ xs. record known { registers = xs }) (sym (one_more front news new))
 
--- behind the item of the caller's stack pointer, if it changes, it is known
-cfa_read : (known : Written) (cfa : Place)
+-- after the item of the caller's stack pointer, if it changes, it is known
+cfa_read : (known : Written) (cfa : RegisterOffset)
     → items_read (if_changed (same_place known.cfa cfa) (CfaItem cfa)) known ≡ record known { cfa = cfa }
 cfa_read known cfa = by_test (same_place known.cfa cfa) refl
   where
@@ -132,8 +132,8 @@ cfa_read known cfa = by_test (same_place known.cfa cfa) refl
     by_test true is = ap (λ x. record known { cfa = x }) (place_sound known.cfa cfa is)
     by_test false is = refl
 
--- behind the item of the return address, if it changes, it is known
-return_read : (known : Written) (found : Found)
+-- after the item of the return address, if it changes, it is known
+return_read : (known : Written) (found : RegisterRule)
     → items_read (if_changed (same_found known.return_address found) (ReturnItem found)) known
     ≡ record known { return_address = found }
 return_read known found = by_test (same_found known.return_address found) refl
@@ -143,7 +143,7 @@ return_read known found = by_test (same_found known.return_address found) refl
     by_test true is = ap (λ x. record known { return_address = x }) (found_sound known.return_address found is)
     by_test false is = refl
 
--- behind the items that change from one line to the next, what the next one says is known
+-- after the items that change from one line to the next, what the next one says is known
 later_read : (old new : Written) → length old.registers ≡ 12 → length new.registers ≡ 12
     → items_read (later_items old new) old ≡ new
 later_read old new olds news =
@@ -158,7 +158,7 @@ later_read old new olds news =
     ∙ ap (items_read registers) (return_read first new.return_address)
     ∙ registers_read 0 second [] old.registers new.registers refl (olds ∙ sym news) (omega arith)
 
--- behind the first items, what the line says is known
+-- after the first items, what the line says is known
 first_read : (new : Written) → length new.registers ≡ 12 → items_read (first_items new) nothing_known ≡ new
 first_read new news =
     registers_read 0 (record new { registers = [] }) [] (replicate 12 Unchanged) new.registers refl (sym news) refl
@@ -167,12 +167,12 @@ first_read new news =
 written_length : (rules : Rules) → length (written rules).registers ≡ length rules.saved
 written_length rules = length-map rules.saved (found_by rules.cfa)
 
--- lines behind the first one ascend
+-- lines after the first one ascend
 ascend_rest : (line : CfiLine) (lines : List CfiLine) (before : ℕ) → Ascend (line ∷ lines) before → Ascend lines before
 ascend_rest line [] before up = tt
 ascend_rest line (next ∷ lines) before up = up.1
 
--- at an offset before a line nothing behind it is read or shown
+-- at an offset before a line nothing after it is read or shown
 later_none : (line : CfiLine) (lines : List CfiLine) (before : ℕ) (rules : Rules) (offset : ℕ) (known : Written)
     → Ascend (line ∷ lines) before → offset < line.offset
     → (known_behind (later_records rules lines) offset known ≡ known) × (shown lines offset ≡ None)
@@ -192,7 +192,7 @@ later_or : (x : Option Rules) (y z : Rules) → unwrap_or (option_or x (Some y))
 later_or None y z = refl
 later_or (Some x) y z = refl
 
--- behind the records of later lines what the rules say is known that these lines show, or those before them
+-- after the records of later lines what the rules say is known that these lines show, or those before them
 later_known : (lines : List CfiLine) (before : ℕ) (old : Rules) (offset : ℕ) → Ascend lines before → AreWhole lines
     → length old.saved ≡ 12
     → known_behind (later_records old lines) offset (written old) ≡ written (unwrap_or (shown lines offset) old)
@@ -222,7 +222,7 @@ shown_last : (x : Option Rules) (y z : Rules) → option_or x (Some y) ≡ Some 
 shown_last None y z is = cc
 shown_last (Some x) y z is = cc
 
--- behind the records of lines what the rules say is known that these lines show
+-- after the records of lines what the rules say is known that these lines show
 pub records_known : (lines : List CfiLine) (before offset : ℕ) (rules : Rules) → Ascend lines before → AreWhole lines
     → shown lines offset ≡ Some rules → known_behind (records lines) offset nothing_known ≡ written rules
 records_known [] before offset rules up whole is = cc
@@ -251,7 +251,7 @@ whole-append [] line is whole = (whole, tt)
 whole-append (first ∷ lines) line is whole = (is.0, whole-append lines line is.1 whole)
 
 -- where lines show a function's rules, records let a reader know them
-pub let_know : (lines : List CfiLine) (before : ℕ) (found : Result Function Refusal) → Ascend lines before
+pub let_know : (lines : List CfiLine) (before : ℕ) (found : Result Function EntryError) → Ascend lines before
     → AreWhole lines → Show lines found → LetKnow (records lines) found
 let_know lines before (Ok function) up whole shows =
     λ offset less. records_known lines before offset (rule_at function.info offset) up whole (shows offset less)

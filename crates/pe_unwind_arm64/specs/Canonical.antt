@@ -36,14 +36,14 @@ abbrev pub float_part : Packed → List Operation
 float_part packed =
     if packed.floats == 0 then [] else replicate (packed.floats / 2) SaveFloats ++ first_float packed ∷ []
 
--- x30 was stored behind the other registers, unless it was with the last of them
+-- x30 was stored after the other registers, unless it was with the last of them
 abbrev pub link_part : Packed → List Operation
 link_part packed =
     if is_saved packed.link && (packed.registers % 2 == 0) then
     (if packed.registers == 0 then Push X30 (saved_size packed) ∷ [] else Save X30 (8 * packed.registers) ∷ [])
     else []
 
--- the store of the last register, which has no pair, so many registers behind x19: with x30 if this belongs there
+-- the store of the last register, which has no pair, so many registers after x19: with x30 if this belongs there
 abbrev pub last_register : Packed → ℕ → Operation
 last_register packed number =
     if is_saved packed.link then SaveWithLink (register number) (8 * number) else Save (register number) (8 * number)

@@ -3,7 +3,7 @@ use Rattle.std.specs.Prelude.{◌≡◌, ℕ, ◌<◌, nat_le, List, [], ◌∷�
 use Rattle.std.specs.Prelude.{Result, Ok, Err, if◌then◌else◌}
 use Rattle.std.specs.Option.{option_or}
 use Rattle.pe_unwind_arm64.specs.Functions.{Function, rule_at, size_of}
-use Rattle.pe_unwind_arm64.specs.declared.faults.Refusal.{Refusal}
+use Rattle.pe_unwind_arm64.specs.declared.unwind_errors.EntryError.{EntryError}
 use Rattle.pe_unwind_arm64.specs.declared.cfi_lines.CfiLine.{CfiLine}
 use Rattle.pe_unwind_arm64.specs.declared.rules.Rules.{Rules}
 
@@ -23,12 +23,12 @@ Ascend (line ∷ []) before = line.offset < before
 Ascend (line ∷ next ∷ lines) before = (line.offset < next.offset) × Ascend (next ∷ lines) before
 
 -- lines ascend within a function; none do within one that is refused
-abbrev pub AscendWithin : List CfiLine → Result Function Refusal → Type 0
+abbrev pub AscendWithin : List CfiLine → Result Function EntryError → Type 0
 AscendWithin lines (Ok function) = Ascend lines (size_of function)
 AscendWithin lines (Err refusal) = ⊥
 
 -- lines show at each offset of a function the rules that the function has there; they show none that is refused
-abbrev pub Show : List CfiLine → Result Function Refusal → Type 0
+abbrev pub Show : List CfiLine → Result Function EntryError → Type 0
 Show lines (Ok function) =
     (offset : ℕ) → offset < size_of function → shown lines offset ≡ Some (rule_at function.info offset)
 Show lines (Err refusal) = ⊥

@@ -6,49 +6,49 @@ use Rattle.pe_unwind_arm64.specs.Registers.{base_number, index, register}
 use Rattle.pe_unwind_arm64.specs.Functions.{Function, rule_at, size_of}
 use Rattle.pe_unwind_arm64.specs.Rules.{less, stack_top}
 use Rattle.pe_unwind_arm64.specs.declared.cfi_lines.CfiLine.{CfiLine}
-use Rattle.pe_unwind_arm64.specs.declared.cfi_records.Found.{Found}
-use Rattle.pe_unwind_arm64.specs.declared.cfi_records.Found.TheVariants.{At, BelowCfa, Unchanged}
-use Rattle.pe_unwind_arm64.specs.declared.cfi_records.Item.{Item}
-use Rattle.pe_unwind_arm64.specs.declared.cfi_records.Item.TheVariants.{CfaItem, RegisterItem, ReturnItem}
-use Rattle.pe_unwind_arm64.specs.declared.faults.Refusal.{Refusal}
-use Rattle.pe_unwind_arm64.specs.declared.rules.Place.{Place}
+use Rattle.pe_unwind_arm64.specs.declared.cfi_records.RegisterRule.{RegisterRule}
+use Rattle.pe_unwind_arm64.specs.declared.cfi_records.RegisterRule.TheVariants.{At, BelowCfa, Unchanged}
+use Rattle.pe_unwind_arm64.specs.declared.cfi_records.CfiItem.{CfiItem}
+use Rattle.pe_unwind_arm64.specs.declared.cfi_records.CfiItem.TheVariants.{CfaItem, RegisterItem, ReturnItem}
+use Rattle.pe_unwind_arm64.specs.declared.unwind_errors.EntryError.{EntryError}
+use Rattle.pe_unwind_arm64.specs.declared.rules.RegisterOffset.{RegisterOffset}
 use Rattle.pe_unwind_arm64.specs.declared.rules.Rules.{Rules}
 
 -- whether two places are counted from the same register
-abbrev pub same_base : Place → Place → Bool
+abbrev pub same_base : RegisterOffset → RegisterOffset → Bool
 same_base a b = base_number a.base == base_number b.base
 
 -- whether two places are the same
-abbrev pub same_place : Place → Place → Bool
+abbrev pub same_place : RegisterOffset → RegisterOffset → Bool
 same_place a b = same_base a b && (a.offset == b.offset)
 
 -- whether a register is found in the same way
-abbrev pub same_found : Found → Found → Bool
+abbrev pub same_found : RegisterRule → RegisterRule → Bool
 same_found Unchanged Unchanged = true
 same_found (BelowCfa a) (BelowCfa b) = a == b
 same_found (At a) (At b) = same_place a b
 same_found a b = false
 
 -- where a place is by the caller's stack pointer: below it, if both are counted from the same register; else by itself
-abbrev pub place_by : Place → Place → Found
+abbrev pub place_by : RegisterOffset → RegisterOffset → RegisterRule
 place_by cfa place = if same_base cfa place then BelowCfa (less cfa.offset place.offset) else At place
 
 -- how a register is found by the place where it is saved; it is unchanged if it isn't
-abbrev pub found_by : Place → Option Place → Found
+abbrev pub found_by : RegisterOffset → Option RegisterOffset → RegisterRule
 found_by cfa None = Unchanged
 found_by cfa (Some place) = place_by cfa place
 
 -- the place that a record says, by the caller's stack pointer; none for a register that is unchanged
-abbrev pub place_known : Place → Found → Option Place
+abbrev pub place_known : RegisterOffset → RegisterRule → Option RegisterOffset
 place_known cfa Unchanged = None
 place_known cfa (BelowCfa bytes) = Some (record cfa { offset = less cfa.offset bytes })
 place_known cfa (At place) = Some place
 
 -- what rules say as records do: the caller's stack pointer, and by it the return address and each register
 pub record Written : Type 0 where
-  pub cfa : Place
-  pub return_address : Found
-  pub registers : List Found
+  pub cfa : RegisterOffset
+  pub return_address : RegisterRule
+  pub registers : List RegisterRule
 
 -- these rules, as records say them
 abbrev pub written : Rules → Written
@@ -59,11 +59,11 @@ written rules = record {
 }
 
 -- an item where a rule changes, else none
-abbrev pub if_changed : Bool → Item → List Item
+abbrev pub if_changed : Bool → CfiItem → List CfiItem
 if_changed same item = if same then [] else item ∷ []
 
 -- the items of the registers from a number on whose rules change
-abbrev pub register_items : ℕ → List Found → List Found → List Item
+abbrev pub register_items : ℕ → List RegisterRule → List RegisterRule → List CfiItem
 register_items number [] news = []
 register_items number (old ∷ olds) [] = []
 register_items number (old ∷ olds) (new ∷ news) =
@@ -71,35 +71,35 @@ register_items number (old ∷ olds) (new ∷ news) =
 
 -- the items of a function's first record: the caller's stack pointer, the return address, and each register that is
 -- saved
-abbrev pub first_items : Written → List Item
+abbrev pub first_items : Written → List CfiItem
 first_items new =
     CfaItem new.cfa ∷ ReturnItem new.return_address ∷ register_items 0 (replicate 12 Unchanged) new.registers
 
 -- the items of a later record: each rule that changes
-abbrev pub later_items : Written → Written → List Item
+abbrev pub later_items : Written → Written → List CfiItem
 later_items old new =
     if_changed (same_place old.cfa new.cfa) (CfaItem new.cfa)
     ++ (if_changed (same_found old.return_address new.return_address) (ReturnItem new.return_address)
     ++ register_items 0 old.registers new.registers)
 
 -- what a reader of records knows of an item: it takes the place of what was known
-abbrev pub item_read : Item → Written → Written
+abbrev pub item_read : CfiItem → Written → Written
 item_read (CfaItem cfa) known = record known { cfa = cfa }
 item_read (ReturnItem found) known = record known { return_address = found }
 item_read (RegisterItem register found) known =
     record known { registers = slice_set known.registers (index register) found }
 
 -- the same for items, one after the other
-abbrev pub items_read : List Item → Written → Written
+abbrev pub items_read : List CfiItem → Written → Written
 items_read [] known = known
 items_read (item ∷ items) known = items_read items (item_read item known)
 
 -- a record: its items, which hold from an offset of the function on
 pub record CfiRecord : Type 0 where
   pub offset : ℕ
-  pub items : List Item
+  pub items : List CfiItem
 
--- the records of the lines behind one with these rules: what changes from line to line
+-- the records of the lines after one with these rules: what changes from line to line
 abbrev pub later_records : Rules → List CfiLine → List CfiRecord
 later_records old [] = []
 later_records old (line ∷ lines) = record {
@@ -129,7 +129,7 @@ AreWhole [] = Unit {0}
 AreWhole (line ∷ lines) = (length line.rules.saved ≡ 12) × AreWhole lines
 
 -- records let a reader know, at each offset of a function, what the function's rules there say
-abbrev pub LetKnow : List CfiRecord → Result Function Refusal → Type 0
+abbrev pub LetKnow : List CfiRecord → Result Function EntryError → Type 0
 LetKnow all (Ok function) = (offset : ℕ) → offset < size_of function
     → known_behind all offset nothing_known ≡ written (rule_at function.info offset)
 LetKnow all (Err refusal) = ⊥

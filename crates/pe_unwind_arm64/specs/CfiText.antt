@@ -7,17 +7,17 @@ use Rattle.pe_unwind_arm64.specs.CfiLines.{Ascend}
 use Rattle.pe_unwind_arm64.specs.CfiRecords.{LetKnow, first_items, later_items, records, written}
 use Rattle.pe_unwind_arm64.specs.Functions.{Function, size_of}
 use Rattle.pe_unwind_arm64.specs.declared.cfi_lines.CfiLine.{CfiLine}
-use Rattle.pe_unwind_arm64.specs.declared.cfi_records.Found.{Found}
-use Rattle.pe_unwind_arm64.specs.declared.cfi_records.Found.TheVariants.{At, BelowCfa, Unchanged}
-use Rattle.pe_unwind_arm64.specs.declared.cfi_records.Item.{Item}
-use Rattle.pe_unwind_arm64.specs.declared.cfi_records.Item.TheVariants.{CfaItem, RegisterItem, ReturnItem}
-use Rattle.pe_unwind_arm64.specs.declared.faults.Refusal.{Refusal}
-use Rattle.pe_unwind_arm64.specs.declared.registers.Base.{Base}
-use Rattle.pe_unwind_arm64.specs.declared.registers.Base.TheVariants.{Fp, Sp}
+use Rattle.pe_unwind_arm64.specs.declared.cfi_records.RegisterRule.{RegisterRule}
+use Rattle.pe_unwind_arm64.specs.declared.cfi_records.RegisterRule.TheVariants.{At, BelowCfa, Unchanged}
+use Rattle.pe_unwind_arm64.specs.declared.cfi_records.CfiItem.{CfiItem}
+use Rattle.pe_unwind_arm64.specs.declared.cfi_records.CfiItem.TheVariants.{CfaItem, RegisterItem, ReturnItem}
+use Rattle.pe_unwind_arm64.specs.declared.unwind_errors.EntryError.{EntryError}
+use Rattle.pe_unwind_arm64.specs.declared.registers.BaseRegister.{BaseRegister}
+use Rattle.pe_unwind_arm64.specs.declared.registers.BaseRegister.TheVariants.{Fp, Sp}
 use Rattle.pe_unwind_arm64.specs.declared.registers.Register.{Register}
 use Rattle.pe_unwind_arm64.specs.declared.registers.Register.TheVariants.{X19, X20, X21, X22, X23, X24, X25, X26}
 use Rattle.pe_unwind_arm64.specs.declared.registers.Register.TheVariants.{X27, X28, X29, X30}
-use Rattle.pe_unwind_arm64.specs.declared.rules.Place.{Place}
+use Rattle.pe_unwind_arm64.specs.declared.rules.RegisterOffset.{RegisterOffset}
 use Rattle.pe_unwind_arm64.specs.declared.rules.Rules.{Rules}
 
 -- a register as Breakpad writes it
@@ -36,7 +36,7 @@ name X29 = codes "x29"
 name X30 = codes "x30"
 
 -- a register that places are counted from as Breakpad writes it
-abbrev pub base_name : Base → List ℕ
+abbrev pub base_name : BaseRegister → List ℕ
 base_name Sp = codes "sp"
 base_name Fp = codes "x29"
 
@@ -50,17 +50,17 @@ signed_decimal number =
     if nat_lt number (2 ^ 63) then decimal number else codes "-" ++ decimal (2 ^ 64 - number)
 
 -- the address of a place
-abbrev pub place_text : Place → List ℕ
+abbrev pub place_text : RegisterOffset → List ℕ
 place_text place = base_name place.base ++ (codes " " ++ (signed_decimal place.offset ++ codes " +"))
 
 -- how a register is found, by its own name; the return address, too, which is x30
-abbrev pub found_text : List ℕ → Found → List ℕ
+abbrev pub found_text : List ℕ → RegisterRule → List ℕ
 found_text own Unchanged = own
 found_text own (BelowCfa bytes) = codes ".cfa " ++ (signed_decimal bytes ++ codes " - ^")
 found_text own (At place) = place_text place ++ codes " ^"
 
 -- an item: a space, a name, a colon, and how this is found
-unfoldable pub item_text : Item → List ℕ
+unfoldable pub item_text : CfiItem → List ℕ
 item_text (CfaItem cfa) = codes " .cfa: " ++ place_text cfa
 item_text (ReturnItem found) = codes " .ra: " ++ found_text (name X30) found
 item_text (RegisterItem register found) =
@@ -78,7 +78,7 @@ later_text address old new =
     codes "STACK CFI " ++ (hexadecimal address
     ++ (flat_map item_text (later_items (written old) (written new)) ++ codes "\n"))
 
--- the records of the lines behind one with these rules
+-- the records of the lines after one with these rules
 abbrev pub later_texts : ℕ → Rules → List CfiLine → List ℕ
 later_texts begin old [] = []
 later_texts begin old (line ∷ lines) =
@@ -92,7 +92,7 @@ function_text begin size (line ∷ lines) =
 
 -- a text has the records of a function at its end: those of lines that ascend within the function, and that let a reader
 -- know the function's rules
-abbrev pub ShowText : List ℕ → List ℕ → Result Function Refusal → Type 0
+abbrev pub ShowText : List ℕ → List ℕ → Result Function EntryError → Type 0
 ShowText old new (Ok function) = (lines : List CfiLine)
     × (new ≡ old ++ function_text function.begin (size_of function) lines)
     × Ascend lines (size_of function)

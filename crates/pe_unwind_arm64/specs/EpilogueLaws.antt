@@ -7,7 +7,7 @@ use Rattle.pe_unwind_arm64.specs.Functions.{Function, body_rules, epilogue_rules
 use Rattle.pe_unwind_arm64.specs.UnwindInfo.{Info}
 use Rattle.pe_unwind_arm64.specs.declared.epilogues.Epilogue.{Epilogue}
 
--- behind the prologue of a function, the rules at an offset in an epilogue are that epilogue's
+-- after the prologue of a function, the rules at an offset in an epilogue are that epilogue's
 abbrev pub RulesWithin : Type 0
 RulesWithin = (program : Program) (reach : ℕ) (entry : Arm64Entry) (function : Function)
     (before after : List Epilogue) (epilogue : Epilogue) (offset : ℕ)
@@ -15,7 +15,7 @@ RulesWithin = (program : Program) (reach : ℕ) (entry : Arm64Entry) (function :
     → function.info.prologue ≤ offset → epilogue.start ≤ offset → offset < epilogue.end
     → rules_before function.info offset ≡ epilogue_rules function.info epilogue offset
 
--- behind the prologue, the rules at an offset that is in no epilogue are those of the body
+-- after the prologue, the rules at an offset that is in no epilogue are those of the body
 abbrev pub RulesOutside : Type 0
 RulesOutside = (info : Info) (offset : ℕ) → info.prologue ≤ offset → AreOutside offset info.epilogues
     → rules_before info offset ≡ body_rules info

@@ -2,16 +2,16 @@
 -- function are counted in instructions, of four bytes each.
 use Rattle.std.specs.Prelude.{ℕ, ◌+◌, ◌-◌, ◌==◌, ◌&&◌, ◌||◌, Bool, true, false, nat_le, nat_lt, List, [], ◌∷◌}
 use Rattle.std.specs.Prelude.{◌≤◌, ◌<◌, Result, Ok, Err, if◌then◌else◌}
-use Rattle.pe_unwind_arm64.specs.Faults.{◌>>=◌}
+use Rattle.pe_unwind_arm64.specs.UnwindErrors.{◌>>=◌}
 use Rattle.pe_unwind_arm64.specs.Registers.{index}
 use Rattle.pe_unwind_arm64.specs.Rules.{is_end}
 use Rattle.pe_unwind_arm64.specs.UnwindCodes.{codes_from}
 use Rattle.pe_unwind_arm64.specs.declared.epilogues.Counted.{Counted}
 use Rattle.pe_unwind_arm64.specs.declared.epilogues.Counted.TheVariants.{All, Bad, Chained, One}
 use Rattle.pe_unwind_arm64.specs.declared.epilogues.Epilogue.{Epilogue}
-use Rattle.pe_unwind_arm64.specs.declared.faults.Refusal.{Refusal}
-use Rattle.pe_unwind_arm64.specs.declared.faults.Refusal.TheVariants.{CodesCut, EpilogueOutsideOfFunction}
-use Rattle.pe_unwind_arm64.specs.declared.faults.Refusal.TheVariants.{EpiloguesOverlap, FrameLost}
+use Rattle.pe_unwind_arm64.specs.declared.unwind_errors.EntryError.{EntryError}
+use Rattle.pe_unwind_arm64.specs.declared.unwind_errors.EntryError.TheVariants.{CodesCut, EpilogueOutsideOfFunction}
+use Rattle.pe_unwind_arm64.specs.declared.unwind_errors.EntryError.TheVariants.{EpiloguesOverlap, FrameLost}
 use Rattle.pe_unwind_arm64.specs.declared.unwind_codes.Operation.{Operation}
 use Rattle.pe_unwind_arm64.specs.declared.unwind_codes.Operation.TheVariants.{AddFrame, End, EndChained, Push}
 use Rattle.pe_unwind_arm64.specs.declared.unwind_codes.Operation.TheVariants.{PushPair, Save, SavePair, SaveWithLink}
@@ -30,8 +30,8 @@ counts_as operation = One
 abbrev pub with_next : ℕ → Bool → ℕ
 with_next count chained = if chained then count else count + 1
 
--- how many instructions codes stand for, by how the first of them counts, and by what those behind it come to
-abbrev pub count_by : (ℕ → Bool → Result ℕ Refusal) → ℕ → Bool → Counted → Result ℕ Refusal
+-- how many instructions codes stand for, by how the first of them counts, and by what those after it come to
+abbrev pub count_by : (ℕ → Bool → Result ℕ EntryError) → ℕ → Bool → Counted → Result ℕ EntryError
 count_by others count chained All = Ok count
 count_by others count chained Chained = others count true
 count_by others count chained (Bad refusal) = Err refusal
@@ -39,7 +39,7 @@ count_by others count chained One = others (with_next count chained) chained
 
 -- how many instructions codes stand for, added to so many, by whether the function's own codes have ended; each code up to
 -- the end code must be one that can be undone
-abbrev pub own_count_from : ℕ → Bool → List UnwindCode → Result ℕ Refusal
+abbrev pub own_count_from : ℕ → Bool → List UnwindCode → Result ℕ EntryError
 own_count_from count chained [] = Err CodesCut
 own_count_from count chained (code ∷ codes) =
     count_by (λ more ended. own_count_from more ended codes) count chained (counts_as code.operation)
@@ -69,30 +69,30 @@ is_frame_lost stored (code ∷ codes) =
     is_frame_lost (stored || saves_frame code.operation) codes
 
 -- how many instructions the codes at the front of some stand for, up to the end of the function's own ones
-abbrev pub own_count : List UnwindCode → Result ℕ Refusal
+abbrev pub own_count : List UnwindCode → Result ℕ EntryError
 own_count codes = if is_frame_lost false codes then Err FrameLost else own_count_from 0 false codes
 
 -- the epilogue that begins at an offset and has so many codes from an index on: an instruction for each of them, and one
--- more that leaves the function; it begins at or behind the end of the one before, and ends in its function
-abbrev pub epilogue_with : ℕ → ℕ → ℕ → ℕ → ℕ → Result Epilogue Refusal
+-- more that leaves the function; it begins at or after the end of the one before, and ends in its function
+abbrev pub epilogue_with : ℕ → ℕ → ℕ → ℕ → ℕ → Result Epilogue EntryError
 epilogue_with reach length start index count =
     if nat_lt start reach then Err EpiloguesOverlap else
     if nat_lt length (start + count + 1) then Err EpilogueOutsideOfFunction else
     Ok (record { start = start; end = start + count + 1; index = index })
 
 -- the epilogue that begins at an offset and whose codes are those from an index on
-abbrev pub epilogue_of : ℕ → ℕ → List UnwindCode → ℕ → ℕ → Result Epilogue Refusal
+abbrev pub epilogue_of : ℕ → ℕ → List UnwindCode → ℕ → ℕ → Result Epilogue EntryError
 epilogue_of reach length codes start index =
     own_count (codes_from index codes) >>= epilogue_with reach length start index
 
 -- the epilogue that ends where its function does and has so many codes from an index on
-abbrev pub last_with : ℕ → ℕ → ℕ → Result Epilogue Refusal
+abbrev pub last_with : ℕ → ℕ → ℕ → Result Epilogue EntryError
 last_with length index count =
     if nat_lt length (count + 1) then Err EpilogueOutsideOfFunction else
     Ok (record { start = length - (count + 1); end = length; index = index })
 
 -- the epilogue that ends where its function does, and whose codes are those from an index on
-abbrev pub last_epilogue : ℕ → List UnwindCode → ℕ → Result Epilogue Refusal
+abbrev pub last_epilogue : ℕ → List UnwindCode → ℕ → Result Epilogue EntryError
 last_epilogue length codes index = own_count (codes_from index codes) >>= last_with length index
 
 -- the epilogues that don't end at an offset or before it
@@ -101,7 +101,7 @@ epilogues_left offset [] = []
 epilogues_left offset (epilogue ∷ epilogues) =
     if nat_le epilogue.end offset then epilogues_left offset epilogues else epilogue ∷ epilogues
 
--- each epilogue begins at or behind an offset that those before it end at, and none is empty
+-- each epilogue begins at or after an offset that those before it end at, and none is empty
 abbrev pub InOrder : ℕ → List Epilogue → Type 0
 InOrder reach [] = Unit {0}
 InOrder reach (epilogue ∷ epilogues) =

@@ -5,20 +5,20 @@ use Rattle.std.specs.Prelude.{Result, Ok, Err, if◌then◌else◌}
 use Rattle.pe_image.specs.Image.{Program, bytes_from}
 use Rattle.pe_image.specs.declared.arm64_directory.Arm64Entry.{Arm64Entry}
 use Rattle.pe_unwind_arm64.specs.Epilogues.{epilogues_left}
-use Rattle.pe_unwind_arm64.specs.Faults.{◌>>=◌}
+use Rattle.pe_unwind_arm64.specs.UnwindErrors.{◌>>=◌}
 use Rattle.pe_unwind_arm64.specs.Packed.{packed_length, packed_of}
 use Rattle.pe_unwind_arm64.specs.PackedData.{packed_info}
 use Rattle.pe_unwind_arm64.specs.Rules.{rules_behind}
 use Rattle.pe_unwind_arm64.specs.UnwindCodes.{codes_from}
 use Rattle.pe_unwind_arm64.specs.UnwindInfo.{Info, header_in, info_in}
 use Rattle.pe_unwind_arm64.specs.declared.epilogues.Epilogue.{Epilogue}
-use Rattle.pe_unwind_arm64.specs.declared.faults.Refusal.{Refusal}
-use Rattle.pe_unwind_arm64.specs.declared.faults.Refusal.TheVariants.{Empty, OutsideOfImage, Overlapping, ReservedFlag}
+use Rattle.pe_unwind_arm64.specs.declared.unwind_errors.EntryError.{EntryError}
+use Rattle.pe_unwind_arm64.specs.declared.unwind_errors.EntryError.TheVariants.{Empty, OutsideOfImage, Overlapping, ReservedFlag}
 use Rattle.pe_unwind_arm64.specs.declared.rules.Rules.{Rules}
 
 -- the unwind info of an entry, by its UnwindData: if the low two bits are 0, it is at the address that this is; if they are
 -- 1 or 2, it is packed in the other bits
-abbrev pub info_of : Program → ℕ → Result Info Refusal
+abbrev pub info_of : Program → ℕ → Result Info EntryError
 info_of program unwind =
     if unwind % 4 == 0 then info_in (bytes_from program unwind) else
     if unwind % 4 == 3 then Err ReservedFlag else
@@ -28,7 +28,7 @@ info_of program unwind =
 abbrev pub body_rules : Info → Rules
 body_rules info = rules_behind 0 info.codes
 
--- the rules behind so many instructions of an epilogue: their codes, from the epilogue's first on, aren't to be undone
+-- the rules after so many instructions of an epilogue: their codes, from the epilogue's first on, aren't to be undone
 abbrev pub epilogue_rules : Info → Epilogue → ℕ → Rules
 epilogue_rules info epilogue offset = rules_behind (offset - epilogue.start) (codes_from epilogue.index info.codes)
 
@@ -37,7 +37,7 @@ abbrev pub is_begun : List Epilogue → ℕ → Bool
 is_begun [] offset = false
 is_begun (epilogue ∷ epilogues) offset = nat_le epilogue.start offset
 
--- the rules at an offset behind the prologue, by the epilogues that don't end before it: those of the epilogue that has
+-- the rules at an offset after the prologue, by the epilogues that don't end before it: those of the epilogue that has
 -- begun, else those of the body
 abbrev pub rules_by : Info → List Epilogue → ℕ → Rules
 rules_by info [] offset = body_rules info
@@ -73,15 +73,15 @@ abbrev pub size_of : Function → ℕ
 size_of function = 4 * function.length
 
 -- the length of a function in instructions, by its UnwindData
-abbrev pub length_of : Program → ℕ → Result ℕ Refusal
+abbrev pub length_of : Program → ℕ → Result ℕ EntryError
 length_of program unwind =
     if unwind % 4 == 0 then (header_in (bytes_from program unwind) >>= λ header. Ok header.length) else
     if unwind % 4 == 3 then Err ReservedFlag else
     Ok (packed_length unwind)
 
--- the length of a function that begins at an address, if this is at or behind an address, up to which the functions before
+-- the length of a function that begins at an address, if this is at or after an address, up to which the functions before
 -- it reach, if it isn't empty, and if the image has bytes for all of it
-abbrev pub checked : Program → ℕ → ℕ → ℕ → Result ℕ Refusal
+abbrev pub checked : Program → ℕ → ℕ → ℕ → Result ℕ EntryError
 checked program reach begin count =
     if count == 0 then Err Empty else
     if nat_lt (length (bytes_from program begin)) (4 * count) then Err OutsideOfImage else
@@ -89,22 +89,22 @@ checked program reach begin count =
     if nat_lt begin reach then Err Overlapping else
     Ok count
 
--- the length of an entry's function, behind functions that reach up to an address
-abbrev pub length_at : Program → ℕ → Arm64Entry → Result ℕ Refusal
+-- the length of an entry's function, after functions that reach up to an address
+abbrev pub length_at : Program → ℕ → Arm64Entry → Result ℕ EntryError
 length_at program reach entry = length_of program entry.unwind >>= checked program reach entry.begin
 
--- the function of an entry, behind functions that reach up to an address
-abbrev pub function_at : Program → ℕ → Arm64Entry → Result Function Refusal
+-- the function of an entry, after functions that reach up to an address
+abbrev pub function_at : Program → ℕ → Arm64Entry → Result Function EntryError
 function_at program reach entry = do
   length ← length_at program reach entry
   info ← info_of program entry.unwind
   Ok (record { begin = entry.begin; length = length; info = info })
 
--- the address that functions reach up to behind one that begins at an address and has this length, if it isn't refused
-abbrev pub reach_by : ℕ → ℕ → Result ℕ Refusal → ℕ
+-- the address that functions reach up to after one that begins at an address and has this length, if it isn't refused
+abbrev pub reach_by : ℕ → ℕ → Result ℕ EntryError → ℕ
 reach_by reach begin (Ok length) = begin + 4 * length
 reach_by reach begin (Err refusal) = reach
 
--- the address that functions reach up to behind an entry: where this one ends, if it isn't refused
+-- the address that functions reach up to after an entry: where this one ends, if it isn't refused
 abbrev pub reach_behind : Program → ℕ → Arm64Entry → ℕ
 reach_behind program reach entry = reach_by reach entry.begin (length_at program reach entry)

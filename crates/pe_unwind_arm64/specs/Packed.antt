@@ -4,7 +4,7 @@ use Rattle.pe_unwind_arm64.specs.declared.packed_data.Link.{Link}
 use Rattle.pe_unwind_arm64.specs.declared.packed_data.Link.TheVariants.{Chain, Kept, Saved, SignedChain}
 use Rattle.pe_unwind_arm64.specs.declared.packed_data.Packed.{Packed}
 
--- what the two bits of CR say that was done with x30: nothing; it was stored behind the other registers; it was signed,
+-- what the two bits of CR say that was done with x30: nothing; it was stored after the other registers; it was signed,
 -- and stored with x29, which was set to the stack pointer; or the same, and it wasn't signed
 abbrev pub link_of : ℕ → Link
 link_of number =
@@ -13,7 +13,7 @@ link_of number =
     if number == 2 then SignedChain else
     Chain
 
--- the length of a function in instructions, in 11 bits behind the two of the flag
+-- the length of a function in instructions, in 11 bits after the two of the flag
 abbrev pub packed_length : ℕ → ℕ
 packed_length number = number / 4 % 2048
 
@@ -30,7 +30,7 @@ packed_of number = record {
   frame = number / 0x800000 * 16;
 }
 
--- whether x30 was stored behind the other registers
+-- whether x30 was stored after the other registers
 abbrev pub is_saved : Link → Bool
 is_saved Saved = true
 is_saved link = false
@@ -46,7 +46,7 @@ abbrev pub is_signed : Link → Bool
 is_signed SignedChain = true
 is_signed link = false
 
--- how many bytes the registers from x19 on take, with x30 if it was stored behind them
+-- how many bytes the registers from x19 on take, with x30 if it was stored after them
 abbrev pub register_size : Packed → ℕ
 register_size packed = 8 * packed.registers + (if is_saved packed.link then 8 else 0)
 

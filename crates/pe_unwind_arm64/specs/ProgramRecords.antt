@@ -5,25 +5,25 @@ use Rattle.pe_image.specs.Image.{Program}
 use Rattle.pe_image.specs.declared.arm64_directory.Arm64Entry.{Arm64Entry}
 use Rattle.pe_unwind_arm64.specs.CfiText.{ShowText}
 use Rattle.pe_unwind_arm64.specs.Functions.{Function, function_at, reach_behind}
-use Rattle.pe_unwind_arm64.specs.declared.faults.Refusal.{Refusal}
-use Rattle.pe_unwind_arm64.specs.declared.program_records.LeftOut.{LeftOut}
+use Rattle.pe_unwind_arm64.specs.declared.unwind_errors.EntryError.{EntryError}
+use Rattle.pe_unwind_arm64.specs.declared.program_records.OmittedEntry.{OmittedEntry}
 
 -- what was written so far: the text of records, and the entries that were left out
 pub record Written : Type 0 where
   pub text : List ℕ
-  pub left_out : List LeftOut
+  pub left_out : List OmittedEntry
 
 -- before anything is written
 abbrev pub nothing_written : Written
 nothing_written = record { text = []; left_out = [] }
 
 -- what is written of an entry's function: its records; or if it is refused, it is left out, with the refusal
-abbrev pub Adds : Arm64Entry → Result Function Refusal → Written → Written → Type 0
+abbrev pub Adds : Arm64Entry → Result Function EntryError → Written → Written → Type 0
 Adds entry (Ok function) old new = ShowText old.text new.text (Ok function) × (new.left_out ≡ old.left_out)
 Adds entry (Err refusal) old new =
     (new.text ≡ old.text) × (new.left_out ≡ old.left_out ++ record { begin = entry.begin; why = refusal } ∷ [])
 
--- what is written of entries, one after the other, behind functions that reach up to an address
+-- what is written of entries, one after the other, after functions that reach up to an address
 abbrev pub AddsAll : Program → ℕ → List Arm64Entry → Written → Written → Type 0
 AddsAll program reach [] old new = new ≡ old
 AddsAll program reach (entry ∷ entries) old new = (middle : Written)

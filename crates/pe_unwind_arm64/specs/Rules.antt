@@ -3,10 +3,10 @@
 use Rattle.std.specs.Prelude.{ℕ, ◌+◌, ◌-◌, ◌%◌, ◌^◌, Bool, true, false, List, [], ◌∷◌, drop}
 use Rattle.std.specs.Prelude.{Option, Some, None, replicate, slice_get, slice_set, unwrap_or, if◌then◌else◌}
 use Rattle.pe_unwind_arm64.specs.Registers.{index, second}
-use Rattle.pe_unwind_arm64.specs.declared.registers.Base.TheVariants.{Fp, Sp}
+use Rattle.pe_unwind_arm64.specs.declared.registers.BaseRegister.TheVariants.{Fp, Sp}
 use Rattle.pe_unwind_arm64.specs.declared.registers.Register.{Register}
 use Rattle.pe_unwind_arm64.specs.declared.registers.Register.TheVariants.{X30}
-use Rattle.pe_unwind_arm64.specs.declared.rules.Place.{Place}
+use Rattle.pe_unwind_arm64.specs.declared.rules.RegisterOffset.{RegisterOffset}
 use Rattle.pe_unwind_arm64.specs.declared.rules.Rules.{Rules}
 use Rattle.pe_unwind_arm64.specs.declared.rules.Unwound.{Unwound}
 use Rattle.pe_unwind_arm64.specs.declared.unwind_codes.Operation.{Operation}
@@ -25,19 +25,19 @@ abbrev pub less : ℕ → ℕ → ℕ
 less a b = (a + (2 ^ 64 - b)) % 2 ^ 64
 
 -- a place so many bytes above another
-abbrev pub above : Place → ℕ → Place
+abbrev pub above : RegisterOffset → ℕ → RegisterOffset
 above place bytes = record place { offset = sum_of place.offset bytes }
 
 -- where the stack pointer points before anything is undone
-abbrev pub stack_top : Place
+abbrev pub stack_top : RegisterOffset
 stack_top = record { base = Sp; offset = 0 }
 
 -- the place so many bytes below where x29 points
-abbrev pub below_frame : ℕ → Place
+abbrev pub below_frame : ℕ → RegisterOffset
 below_frame bytes = record { base = Fp; offset = less 0 bytes }
 
 -- no register is saved
-abbrev pub nothing_saved : List (Option Place)
+abbrev pub nothing_saved : List (Option RegisterOffset)
 nothing_saved = replicate 12 None
 
 -- before anything is undone the stack pointer is as it is, and no register is saved
@@ -45,11 +45,11 @@ abbrev pub at_first : Unwound
 at_first = record { stack = stack_top; saved = nothing_saved }
 
 -- a register is saved at a place; where it is saved twice, the place that comes last counts
-abbrev pub with_saved : Register → Place → Unwound → Unwound
+abbrev pub with_saved : Register → RegisterOffset → Unwound → Unwound
 with_saved register place unwound = record unwound { saved = slice_set unwound.saved (index register) (Some place) }
 
 -- two registers are saved, the second one 8 bytes above the first
-abbrev pub with_pair : Register → Register → Place → Unwound → Unwound
+abbrev pub with_pair : Register → Register → RegisterOffset → Unwound → Unwound
 with_pair one other place unwound = with_saved other (above place 8) (with_saved one place unwound)
 
 -- the stack pointer points higher
@@ -79,7 +79,7 @@ abbrev pub is_end : Operation → Bool
 is_end End = true
 is_end operation = false
 
--- what some codes undo, one after the other, up to the end code: behind the end of the function's own codes those go on
+-- what some codes undo, one after the other, up to the end code: after the end of the function's own codes those go on
 -- of the function that it is a part of
 abbrev pub codes_undone : List UnwindCode → Unwound → Unwound
 codes_undone [] u = u

@@ -2,8 +2,8 @@
 use Rattle.std.specs.Prelude.{ℕ, zero, suc, ◌+◌, ◌-◌, ◌*◌, ◌/◌, ◌%◌, ◌==◌, ◌<◌, Bool, nat_le, nat_lt}
 use Rattle.std.specs.Prelude.{List, [], ◌∷◌, drop, length, slice_index, if◌then◌else◌}
 use Rattle.pe_unwind_arm64.specs.Registers.{index, register}
-use Rattle.pe_unwind_arm64.specs.declared.faults.Refusal.TheVariants.{AnyRegister, CodesCut, CustomStack, NextOfNoPair}
-use Rattle.pe_unwind_arm64.specs.declared.faults.Refusal.TheVariants.{ScalableVectors, UnknownCode, UnknownRegister}
+use Rattle.pe_unwind_arm64.specs.declared.unwind_errors.EntryError.TheVariants.{AnyRegister, CodesCut, CustomStack, NextOfNoPair}
+use Rattle.pe_unwind_arm64.specs.declared.unwind_errors.EntryError.TheVariants.{ScalableVectors, UnknownCode, UnknownRegister}
 use Rattle.pe_unwind_arm64.specs.declared.registers.Register.{Register}
 use Rattle.pe_unwind_arm64.specs.declared.registers.Register.TheVariants.{X19, X29}
 use Rattle.pe_unwind_arm64.specs.declared.unwind_codes.Operation.{Operation}
@@ -38,14 +38,14 @@ short_operation byte =
     if nat_lt byte 0x80 then SavePair X29 ((byte - 0x40) * 8) else
     PushPair X29 ((byte - 0x80) * 8 + 8)
 
--- the operation on a register, if there is such a register: the last of them is so many behind x19
+-- the operation on a register, if there is such a register: the last of them is so many after x19
 abbrev pub if_known : ℕ → Operation → Operation
 if_known last operation = if nat_le last 11 then operation else Unusable UnknownRegister
 
 -- what a code says that was done with registers of general use, by its first byte and by the number that its two bytes
 -- are, the first one the higher: save_regp (110010xx xxzzzzzz) and save_regp_x (110011xx xxzzzzzz) of a pair that is so
--- many behind x19, save_reg (110100xx xxzzzzzz) and save_reg_x (1101010x xxxzzzzz) of one register, save_lrpair
--- (1101011x xxzzzzzz) of a register that is twice so many behind x19, and x30
+-- many after x19, save_reg (110100xx xxzzzzzz) and save_reg_x (1101010x xxxzzzzz) of one register, save_lrpair
+-- (1101011x xxzzzzzz) of a register that is twice so many after x19, and x30
 abbrev pub save_operation : ℕ → ℕ → Operation
 save_operation byte number =
     if nat_lt byte 0xcc then
@@ -81,7 +81,7 @@ long_operation byte number =
 abbrev pub number_of_two : List ℕ → ℕ
 number_of_two bytes = slice_index bytes 0 * 256 + slice_index bytes 1
 
--- the number in the three bytes behind the first one of a code, the first of them the highest
+-- the number in the three bytes after the first one of a code, the first of them the highest
 abbrev pub large_number : List ℕ → ℕ
 large_number bytes = slice_index bytes 1 * 65536 + slice_index bytes 2 * 256 + slice_index bytes 3
 
@@ -111,14 +111,14 @@ own_operation bytes =
     if nat_lt (slice_index bytes 0) 0xe0 then long_operation (slice_index bytes 0) (number_of_two bytes) else
     other_operation (slice_index bytes 0) bytes
 
--- the pair that is so many pairs behind one, and as many times 16 bytes above it; x27 and x28 are the last such pair
+-- the pair that is so many pairs after one, and as many times 16 bytes above it; x27 and x28 are the last such pair
 abbrev pub pair_behind : ℕ → Register → ℕ → Operation
 pair_behind count first offset =
     if nat_le (index first + 2 * count) 8 then SavePair (register (index first + 2 * count)) (offset + 16 * count)
     else Unusable NextOfNoPair
 
--- what the first of so many save_next codes says that was done, by the operation of the code behind them: the pair behind
--- that code's was stored, or, by the first of more of them, the pair so many behind it
+-- what the first of so many save_next codes says that was done, by the operation of the code after them: the pair after
+-- that code's was stored, or, by the first of more of them, the pair so many after it
 abbrev pub operation_behind : ℕ → Operation → Operation
 operation_behind count (SavePair first offset) = pair_behind count first offset
 operation_behind count (PushPair first bytes) = pair_behind count first 0
@@ -130,14 +130,14 @@ operation_behind count operation = Unusable NextOfNoPair
 abbrev pub is_next : List ℕ → Bool
 is_next bytes = slice_index bytes 0 == 0xe6
 
--- what a save_next code says that was done, by the bytes behind it and so many more such codes: at most so many of these
+-- what a save_next code says that was done, by the bytes after it and so many more such codes: at most so many of these
 -- are passed
 abbrev pub next_up_to : ℕ → ℕ → List ℕ → Operation
 next_up_to zero count bytes = operation_behind count (own_operation bytes)
 next_up_to (suc left) count bytes =
     if is_next bytes then next_up_to left (count + 1) (drop 1 bytes) else operation_behind count (own_operation bytes)
 
--- what a save_next code says that was done, by the bytes behind it; no pair is more than four behind another
+-- what a save_next code says that was done, by the bytes after it; no pair is more than four after another
 unfoldable pub next_operation : List ℕ → Operation
 next_operation bytes = next_up_to 4 1 bytes
 

@@ -4,11 +4,11 @@ use Rattle.std.specs.Prelude.{Result, Ok, Err, unwrap_or, if◌then◌else◌}
 use Rattle.std.specs.Option.{ok_or}
 use Rattle.pe_image.specs.NumbersAt.{bytes_at, number_at}
 use Rattle.pe_unwind_arm64.specs.Epilogues.{epilogue_of, last_epilogue, own_count}
-use Rattle.pe_unwind_arm64.specs.Faults.{◌>>=◌, behind}
+use Rattle.pe_unwind_arm64.specs.UnwindErrors.{◌>>=◌, behind}
 use Rattle.pe_unwind_arm64.specs.UnwindCodes.{codes_in}
 use Rattle.pe_unwind_arm64.specs.declared.epilogues.Epilogue.{Epilogue}
-use Rattle.pe_unwind_arm64.specs.declared.faults.Refusal.{Refusal}
-use Rattle.pe_unwind_arm64.specs.declared.faults.Refusal.TheVariants.{CodesCut, InfoOutsideOfImage, UnknownVersion}
+use Rattle.pe_unwind_arm64.specs.declared.unwind_errors.EntryError.{EntryError}
+use Rattle.pe_unwind_arm64.specs.declared.unwind_errors.EntryError.TheVariants.{CodesCut, InfoOutsideOfImage, UnknownVersion}
 use Rattle.pe_unwind_arm64.specs.declared.unwind_codes.UnwindCode.{UnwindCode}
 use Rattle.pe_unwind_arm64.specs.declared.unwind_info.Header.{Header}
 
@@ -40,40 +40,40 @@ header_with word more = record (header_of word) {
 }
 
 -- the header of two words
-abbrev pub extended_header : ℕ → List ℕ → Result Header Refusal
+abbrev pub extended_header : ℕ → List ℕ → Result Header EntryError
 extended_header word bytes = do
   more ← ok_or (number_at 4 bytes 4) InfoOutsideOfImage
   Ok (header_with word more)
 
 -- the header with a first word: it has a second word if the last two numbers of the first are 0; the version is 0
-abbrev pub header_by : List ℕ → ℕ → Result Header Refusal
+abbrev pub header_by : List ℕ → ℕ → Result Header EntryError
 header_by bytes word =
     if word / 0x40000 % 4 == 0
     then (if word / 0x400000 == 0 then extended_header word bytes else Ok (header_of word))
     else Err UnknownVersion
 
 -- the header that bytes begin with
-abbrev pub header_in : List ℕ → Result Header Refusal
+abbrev pub header_in : List ℕ → Result Header EntryError
 header_in bytes = ok_or (number_at 4 bytes 0) InfoOutsideOfImage >>= header_by bytes
 
 -- the epilogue that an epilogue scope says: the offset of its start in 18 bits, 4 that are reserved, and the index of its
 -- codes in 10
-abbrev pub scope_of : ℕ → ℕ → List UnwindCode → ℕ → Result Epilogue Refusal
+abbrev pub scope_of : ℕ → ℕ → List UnwindCode → ℕ → Result Epilogue EntryError
 scope_of reach length codes word = epilogue_of reach length codes (word % 0x40000) (word / 0x400000)
 
 -- the number that a list of epilogue scopes begins with
 abbrev pub first_scope : List ℕ → ℕ
 first_scope bytes = unwrap_or (number_at 4 bytes 0) 0
 
--- so many epilogues, by their scopes, behind one that ends at an offset
-abbrev pub scopes_up_to : ℕ → ℕ → List UnwindCode → ℕ → List ℕ → Result (List Epilogue) Refusal
+-- so many epilogues, by their scopes, after one that ends at an offset
+abbrev pub scopes_up_to : ℕ → ℕ → List UnwindCode → ℕ → List ℕ → Result (List Epilogue) EntryError
 scopes_up_to zero length codes reach bytes = Ok []
 scopes_up_to (suc left) length codes reach bytes = do
   one ← scope_of reach length codes (first_scope bytes)
   behind (one ∷ []) (scopes_up_to left length codes one.end (drop 4 bytes))
 
 -- so many epilogues, by their scopes
-unfoldable pub scopes_in : ℕ → ℕ → List UnwindCode → List ℕ → Result (List Epilogue) Refusal
+unfoldable pub scopes_in : ℕ → ℕ → List UnwindCode → List ℕ → Result (List Epilogue) EntryError
 scopes_in count length codes bytes = scopes_up_to count length codes 0 bytes
 
 -- how many bytes the epilogue scopes take: four for each, and none where the one epilogue is at the end
@@ -81,7 +81,7 @@ abbrev pub scope_bytes : Header → ℕ
 scope_bytes header = if header.is_single then 0 else 4 * header.epilogues
 
 -- the epilogues of a function, by the header and the scopes of its unwind info
-abbrev pub epilogues_by : Header → List UnwindCode → List ℕ → Result (List Epilogue) Refusal
+abbrev pub epilogues_by : Header → List UnwindCode → List ℕ → Result (List Epilogue) EntryError
 epilogues_by header codes scopes =
     if header.is_single then (do
       one ← last_epilogue header.length codes header.epilogues
@@ -89,14 +89,14 @@ epilogues_by header codes scopes =
     else scopes_in header.epilogues header.length codes scopes
 
 -- what an unwind info says, by its header, its scopes and its codes
-abbrev pub info_by : Header → List ℕ → List UnwindCode → Result Info Refusal
+abbrev pub info_by : Header → List ℕ → List UnwindCode → Result Info EntryError
 info_by header scopes codes = do
   prologue ← own_count codes
   epilogues ← epilogues_by header codes scopes
   Ok (record { codes = codes; prologue = prologue; epilogues = epilogues })
 
 -- what the unwind info says that begins with these bytes: a header, the epilogue scopes, and the codes
-abbrev pub info_in : List ℕ → Result Info Refusal
+abbrev pub info_in : List ℕ → Result Info EntryError
 info_in bytes = do
   header ← header_in bytes
   scopes ← ok_or (bytes_at bytes header.size (scope_bytes header)) InfoOutsideOfImage

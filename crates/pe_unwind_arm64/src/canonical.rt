@@ -70,7 +70,7 @@ fn first_float(packed: Packed) -> Operation
     }
 }
 
-// Appends how so many pairs of registers behind d8 and d9 were stored.
+// Appends how so many pairs of registers after d8 and d9 were stored.
 fn push_floats(operations: &mut Vec<Operation>, count: u8) -> Result<(), AllocError>
     ensures { OnOk result (operations.new.items ≡ operations.old.items ++ replicate count SaveFloats) }
 {
@@ -92,7 +92,7 @@ fn push_float_part(operations: &mut Vec<Operation>, packed: Packed) -> Result<()
     Ok(())
 }
 
-// Appends how x30 was stored behind the other registers.
+// Appends how x30 was stored after the other registers.
 fn push_link(operations: &mut Vec<Operation>, packed: Packed) -> Result<(), AllocError>
     ensures { OnOk result (operations.new.items ≡ operations.old.items ++ link_part packed) }
 {
@@ -107,7 +107,7 @@ fn push_link(operations: &mut Vec<Operation>, packed: Packed) -> Result<(), Allo
     Ok(())
 }
 
-// The store of the last register, which has no pair, so many registers behind x19.
+// The store of the last register, which has no pair, so many registers after x19.
 fn last_register(packed: Packed, number: u8) -> Operation
     ensures { result ≡ last_register packed number }
 {

@@ -3,13 +3,13 @@
 ghost use Rattle.std.specs.Prelude.{◌≡◌, ◌≤◌, ℕ, ◌+◌, ◌*◌, ◌<◌, ◌^◌, IfErr, IfOk, IsTrue, Ok, OnOk, Some};
 ghost use Rattle.pe_unwind_arm64.specs.CfiLines.{Ascend, AscendWithin, Show, shown};
 ghost use Rattle.pe_unwind_arm64.specs.CfiRecords.{AreWhole, LetKnow, records};
-ghost use Rattle.pe_unwind_arm64.specs.Faults.{Fails};
+ghost use Rattle.pe_unwind_arm64.specs.UnwindErrors.{Fails};
 ghost use Rattle.pe_unwind_arm64.specs.Functions.{function_at, rule_at, size_of};
 
 use crate::epilogues::{Epilogue, epilogues_left};
-use crate::faults::UnwindFault;
 use crate::functions::{FunctionUnwind, is_plain, read_function, rules_among};
-use crate::rules::{Place, Rules, is_same_rules};
+use crate::rules::{RegisterOffset, Rules, is_same_rules};
+use crate::unwind_errors::UnwindError;
 use crate::unwind_info::UnwindInfo;
 use pe_image::{Arm64Entry, Image};
 use std::alloc::{AllocError, Global};
@@ -34,7 +34,7 @@ pub fn function_lines(
     image: &Image<'_>,
     reach: u32,
     entry: Arm64Entry,
-) -> Result<Vec<CfiLine>, UnwindFault>
+) -> Result<Vec<CfiLine>, UnwindError>
     ensures answer { IfOk result (λ lines. Show lines.items (function_at image.now reach entry)) }
     ensures ascending { IfOk result (λ lines. AscendWithin lines.items (function_at image.now reach entry)) }
     ensures records { IfOk result (λ lines. LetKnow (records lines.items) (function_at image.now reach entry)) }
@@ -95,7 +95,7 @@ fn push_change(
     ensures ascend { OnOk result (Ascend lines.new.items (offset + 4)) }
     ensures whole { OnOk result (AreWhole lines.new.items) }
 {
-    let saved: &[Option<Place>] = &rules.saved;
+    let saved: &[Option<RegisterOffset>] = &rules.saved;
     prove!(saved.len() == 12);
     if !is_same(last, rules) {
         lines.push(CfiLine { offset, rules })?;

@@ -4,15 +4,15 @@ ghost use Rattle.std.specs.Prelude.{◌≡◌, ◌++◌, ◌<◌, ◌^◌, IfErr
 ghost use Rattle.std.specs.List.{flat_map};
 ghost use Rattle.pe_unwind_arm64.specs.CfiText.{base_name, first_text, found_text, function_text, item_text, later_text};
 ghost use Rattle.pe_unwind_arm64.specs.CfiText.{ShowText, later_texts, name, place_text, signed_decimal};
-ghost use Rattle.pe_unwind_arm64.specs.Faults.{Fails, IsRefusal};
+ghost use Rattle.pe_unwind_arm64.specs.UnwindErrors.{Fails, IsRefusal};
 ghost use Rattle.pe_unwind_arm64.specs.Functions.{function_at, size_of};
 
 use crate::cfi_lines::{CfiLine, lines_of};
-use crate::cfi_records::{Found, Item, first_items, later_items};
-use crate::faults::UnwindFault;
+use crate::cfi_records::{CfiItem, RegisterRule, first_items, later_items};
 use crate::functions::{FunctionUnwind, read_function};
-use crate::registers::{Base, Register};
-use crate::rules::{Place, Rules};
+use crate::registers::{BaseRegister, Register};
+use crate::rules::{RegisterOffset, Rules};
+use crate::unwind_errors::UnwindError;
 use pe_image::{Arm64Entry, Image};
 use std::alloc::{AllocError, Global};
 
@@ -28,7 +28,7 @@ pub fn push_entry(
     image: &Image<'_>,
     reach: u32,
     entry: Arm64Entry,
-) -> Result<(), UnwindFault>
+) -> Result<(), UnwindError>
     ensures answer { OnOk result (ShowText (string_bytes text.old) (string_bytes text.new)
         (function_at image.now reach entry)) }
     ensures unchanged { IfErr result (λ fault. IsRefusal fault → string_bytes text.new ≡ string_bytes text.old) }
@@ -68,7 +68,7 @@ fn push_function(
     push_others(alloc, text, begin, &first.rules, others)
 }
 
-// Appends the records of the lines behind one with these rules.
+// Appends the records of the lines after one with these rules.
 fn push_others(
     alloc: Global,
     text: &mut String,
@@ -127,7 +127,7 @@ fn push_later(
 }
 
 // Appends items.
-fn push_items(text: &mut String, items: &[Item]) -> Result<(), AllocError>
+fn push_items(text: &mut String, items: &[CfiItem]) -> Result<(), AllocError>
     ensures { OnOk result (string_bytes text.new ≡ string_bytes text.old ++ flat_map item_text items.now) }
 {
     for &item in items {
@@ -138,19 +138,19 @@ fn push_items(text: &mut String, items: &[Item]) -> Result<(), AllocError>
 
 // Appends an item.
 #[tactic(auto, unfolding(crate::specs::CfiText::item_text))]
-fn push_item(text: &mut String, item: Item) -> Result<(), AllocError>
+fn push_item(text: &mut String, item: CfiItem) -> Result<(), AllocError>
     ensures { OnOk result (string_bytes text.new ≡ string_bytes text.old ++ item_text item) }
 {
     match item {
-        Item::CfaItem(cfa) => {
+        CfiItem::CfaItem(cfa) => {
             text.push_str(" .cfa: ")?;
             push_place(text, cfa)
         }
-        Item::ReturnItem(found) => {
+        CfiItem::ReturnItem(found) => {
             text.push_str(" .ra: ")?;
             push_found(text, name(Register::X30), found)
         }
-        Item::RegisterItem(register, found) => {
+        CfiItem::RegisterItem(register, found) => {
             let own = name(register);
             text.push_str(" ")?;
             text.push_str(own)?;
@@ -161,17 +161,17 @@ fn push_item(text: &mut String, item: Item) -> Result<(), AllocError>
 }
 
 // Appends how the return address or a register is found, by its own name.
-fn push_found(text: &mut String, own: &str, found: Found) -> Result<(), AllocError>
+fn push_found(text: &mut String, own: &str, found: RegisterRule) -> Result<(), AllocError>
     ensures { OnOk result (string_bytes text.new ≡ string_bytes text.old ++ found_text own.now found) }
 {
     match found {
-        Found::Unchanged => text.push_str(own),
-        Found::BelowCfa(bytes) => {
+        RegisterRule::Unchanged => text.push_str(own),
+        RegisterRule::BelowCfa(bytes) => {
             text.push_str(".cfa ")?;
             push_signed(text, bytes)?;
             text.push_str(" - ^")
         }
-        Found::At(place) => {
+        RegisterRule::At(place) => {
             push_place(text, place)?;
             text.push_str(" ^")
         }
@@ -179,7 +179,7 @@ fn push_found(text: &mut String, own: &str, found: Found) -> Result<(), AllocErr
 }
 
 // Appends the address of a place.
-fn push_place(text: &mut String, place: Place) -> Result<(), AllocError>
+fn push_place(text: &mut String, place: RegisterOffset) -> Result<(), AllocError>
     ensures { OnOk result (string_bytes text.new ≡ string_bytes text.old ++ place_text place) }
 {
     text.push_str(base_name(place.base))?;
@@ -220,11 +220,11 @@ fn name(register: Register) -> &'static str
 }
 
 // A register that places are counted from as Breakpad writes it.
-fn base_name(base: Base) -> &'static str
+fn base_name(base: BaseRegister) -> &'static str
     ensures { result.now ≡ base_name base }
 {
     match base {
-        Base::Sp => "sp",
-        Base::Fp => "x29",
+        BaseRegister::Sp => "sp",
+        BaseRegister::Fp => "x29",
     }
 }

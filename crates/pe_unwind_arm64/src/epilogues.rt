@@ -4,17 +4,17 @@ ghost use Rattle.std.specs.Prelude.{◌≡◌, ◌≤◌, ◌<◌, ◌^◌, fals
 ghost use Rattle.pe_unwind_arm64.specs.Epilogues.{counts_as, epilogue_of, epilogues_left, last_epilogue, own_count};
 ghost use Rattle.pe_unwind_arm64.specs.Epilogues.{is_frame_lost, own_count_from, saves_frame, sets_frame, with_next};
 
-use crate::faults::Refusal;
 use crate::registers::index;
 use crate::rules::is_end;
 use crate::unwind_codes::{Operation, UnwindCode, codes_from};
+use crate::unwind_errors::EntryError;
 
 /// An epilogue: the instructions that give a function's frame back, and the one that leaves the function.
 #[derive(Debug, Clone, Copy, PartialEq, Eq)]
 pub struct Epilogue {
     /// The offset of its first instruction.
     pub start: usize,
-    /// The offset behind its last instruction.
+    /// The offset after its last instruction.
     pub end: usize,
     /// The index of its first code among the bytes of all codes.
     pub index: usize,
@@ -30,7 +30,7 @@ enum Counted {
     /// All codes end here.
     All,
     /// It can't be undone.
-    Bad(Refusal),
+    Bad(EntryError),
 }
 
 // How a code counts.
@@ -93,20 +93,20 @@ fn is_frame_lost(codes: &[UnwindCode]) -> bool
 }
 
 /// How many instructions the codes at the front of some stand for, up to the end of the function's own ones.
-pub(crate) fn own_count(codes: &[UnwindCode]) -> Result<usize, Refusal>
+pub(crate) fn own_count(codes: &[UnwindCode]) -> Result<usize, EntryError>
     ensures answer { result ≡ own_count codes.now }
-    ensures few { IfOk result (λ count. count ≤ length codes.now) }
+    ensures bound { IfOk result (λ count. count ≤ length codes.now) }
 {
     if is_frame_lost(codes) {
-        return Err(Refusal::FrameLost);
+        return Err(EntryError::FrameLost);
     }
     own_count_of(codes)
 }
 
 // The same, where x29 was stored before it was set.
-fn own_count_of(codes: &[UnwindCode]) -> Result<usize, Refusal>
+fn own_count_of(codes: &[UnwindCode]) -> Result<usize, EntryError>
     ensures answer { result ≡ own_count_from 0 false codes.now }
-    ensures few { IfOk result (λ count. count ≤ length codes.now) }
+    ensures bound { IfOk result (λ count. count ≤ length codes.now) }
 {
     let mut count = 0;
     let mut chained = false;
@@ -118,7 +118,7 @@ fn own_count_of(codes: &[UnwindCode]) -> Result<usize, Refusal>
             Counted::One => count = with_next(count, chained),
         }
     }
-    Err(Refusal::CodesCut)
+    Err(EntryError::CodesCut)
 }
 
 /// The epilogue that begins at an offset and whose codes are those from an index on. `reach` is the end of the one before
@@ -129,16 +129,16 @@ pub(crate) fn epilogue_of(
     codes: &[UnwindCode],
     start: u32,
     index: usize,
-) -> Result<Epilogue, Refusal>
+) -> Result<Epilogue, EntryError>
     ensures answer { result ≡ epilogue_of reach length codes.now start index }
 {
     let count = own_count(codes_from(index, codes))?;
     let start = start as usize;
     if start < reach {
-        return Err(Refusal::EpiloguesOverlap);
+        return Err(EntryError::EpiloguesOverlap);
     }
     if (length as usize) < start + count + 1 {
-        return Err(Refusal::EpilogueOutsideOfFunction);
+        return Err(EntryError::EpilogueOutsideOfFunction);
     }
     Ok(Epilogue {
         start,
@@ -152,13 +152,13 @@ pub(crate) fn last_epilogue(
     length: u32,
     codes: &[UnwindCode],
     index: usize,
-) -> Result<Epilogue, Refusal>
+) -> Result<Epilogue, EntryError>
     ensures answer { result ≡ last_epilogue length codes.now index }
 {
     let count = own_count(codes_from(index, codes))?;
     let end = length as usize;
     if end < count + 1 {
-        return Err(Refusal::EpilogueOutsideOfFunction);
+        return Err(EntryError::EpilogueOutsideOfFunction);
     }
     Ok(Epilogue {
         start: end - (count + 1),

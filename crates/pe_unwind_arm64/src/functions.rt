@@ -2,15 +2,15 @@
 
 ghost use Rattle.std.specs.Prelude.{◌≡◌, ◌≤◌, ◌<◌, ◌+◌, ◌*◌, ◌^◌, IfOk};
 ghost use Rattle.pe_unwind_arm64.specs.EpilogueLaws.{RulesOutside, RulesWithin};
-ghost use Rattle.pe_unwind_arm64.specs.Faults.{Gives};
+ghost use Rattle.pe_unwind_arm64.specs.UnwindErrors.{Gives};
 ghost use Rattle.pe_unwind_arm64.specs.Functions.{body_rules, checked, epilogue_rules, function_at, info_of, is_begun};
 ghost use Rattle.pe_unwind_arm64.specs.Functions.{is_plain, length_at, length_of, reach_behind, rules_among, rules_by};
 
 use crate::epilogues::Epilogue;
-use crate::faults::{Refusal, UnwindFault};
 use crate::packed_data::{packed_info, packed_length, packed_of};
 use crate::rules::{Rules, rules_behind};
 use crate::unwind_codes::codes_from;
+use crate::unwind_errors::{EntryError, UnwindError};
 use crate::unwind_info::{UnwindInfo, header_in, info_in};
 use pe_image::{Arm64Entry, Image};
 use std::alloc::Global;
@@ -45,7 +45,7 @@ pub fn read_function(
     image: &Image<'_>,
     reach: u32,
     entry: Arm64Entry,
-) -> Result<FunctionUnwind, UnwindFault>
+) -> Result<FunctionUnwind, UnwindError>
     ensures answer { Gives (λ function. function) result (function_at image.now reach entry) }
     ensures small { IfOk result (λ function. function.length < 2 ^ 18) }
 {
@@ -59,20 +59,20 @@ pub fn read_function(
 }
 
 // The unwind info of an entry, by its UnwindData.
-fn info_of(alloc: Global, image: &Image<'_>, unwind: u32) -> Result<UnwindInfo, UnwindFault>
+fn info_of(alloc: Global, image: &Image<'_>, unwind: u32) -> Result<UnwindInfo, UnwindError>
     ensures answer { Gives (λ info. info) result (info_of image.now unwind) }
 {
     if unwind % 4 == 0 {
         return info_in(alloc, image.bytes_from(unwind));
     }
     if unwind % 4 == 3 {
-        return Err(UnwindFault::Refused(Refusal::ReservedFlag));
+        return Err(UnwindError::Refused(EntryError::ReservedFlag));
     }
     packed_info(alloc, packed_of(unwind), packed_length(unwind))
 }
 
 // The length of a function in instructions, by its UnwindData.
-fn length_of(image: &Image<'_>, unwind: u32) -> Result<u32, Refusal>
+fn length_of(image: &Image<'_>, unwind: u32) -> Result<u32, EntryError>
     ensures answer { result ≡ length_of image.now unwind }
     ensures small { IfOk result (λ length. length < 2 ^ 18) }
 {
@@ -81,37 +81,37 @@ fn length_of(image: &Image<'_>, unwind: u32) -> Result<u32, Refusal>
         return Ok(header.length);
     }
     if unwind % 4 == 3 {
-        return Err(Refusal::ReservedFlag);
+        return Err(EntryError::ReservedFlag);
     }
     Ok(packed_length(unwind))
 }
 
-// The length of a function that begins at an address, if this is at or behind the end of the functions before it, if it
+// The length of a function that begins at an address, if this is at or after the end of the functions before it, if it
 // isn't empty, and if the image has bytes for all of it.
-fn checked(image: &Image<'_>, reach: u32, begin: u32, length: u32) -> Result<u32, Refusal>
+fn checked(image: &Image<'_>, reach: u32, begin: u32, length: u32) -> Result<u32, EntryError>
     requires { length < 2 ^ 18 }
     ensures answer { result ≡ checked image.now reach begin length }
     ensures small { IfOk result (λ length. length < 2 ^ 18) }
     ensures end { IfOk result (λ length. begin + 4 * length < 2 ^ 32) }
 {
     if length == 0 {
-        return Err(Refusal::Empty);
+        return Err(EntryError::Empty);
     }
     let size = 4 * length;
     if image.bytes_from(begin).len() < size as usize {
-        return Err(Refusal::OutsideOfImage);
+        return Err(EntryError::OutsideOfImage);
     }
     if u32::MAX - begin < size {
-        return Err(Refusal::OutsideOfImage);
+        return Err(EntryError::OutsideOfImage);
     }
     if begin < reach {
-        return Err(Refusal::Overlapping);
+        return Err(EntryError::Overlapping);
     }
     Ok(length)
 }
 
 // The length of an entry's function.
-fn length_at(image: &Image<'_>, reach: u32, entry: Arm64Entry) -> Result<u32, Refusal>
+fn length_at(image: &Image<'_>, reach: u32, entry: Arm64Entry) -> Result<u32, EntryError>
     ensures answer { result ≡ length_at image.now reach entry }
     ensures small { IfOk result (λ length. length < 2 ^ 18) }
     ensures end { IfOk result (λ length. entry.begin + 4 * length < 2 ^ 32) }
@@ -120,7 +120,7 @@ fn length_at(image: &Image<'_>, reach: u32, entry: Arm64Entry) -> Result<u32, Re
     checked(image, reach, entry.begin, length)
 }
 
-/// The address that functions reach up to behind an entry: where this one ends, if it isn't refused.
+/// The address that functions reach up to after an entry: where this one ends, if it isn't refused.
 pub fn reach_behind(image: &Image<'_>, reach: u32, entry: Arm64Entry) -> u32
     ensures answer { result ≡ reach_behind image.now reach entry }
 {
@@ -155,7 +155,7 @@ fn is_begun(left: &[Epilogue], offset: usize) -> bool
     }
 }
 
-// The rules at an offset behind the prologue, by the epilogues that are left.
+// The rules at an offset after the prologue, by the epilogues that are left.
 fn rules_by(info: &UnwindInfo, left: &[Epilogue], offset: usize) -> Rules
     ensures { result ≡ rules_by info.now left.now offset }
 {
@@ -182,7 +182,7 @@ pub(crate) fn is_plain(info: &UnwindInfo, left: &[Epilogue], offset: usize) -> b
     info.prologue <= offset && !is_begun(left, offset)
 }
 
-/// Law: behind the prologue, the rules in an epilogue are those of its codes, and outside of all epilogues those of the
+/// Law: after the prologue, the rules in an epilogue are those of its codes, and outside of all epilogues those of the
 /// body.
 pub fn epilogues_have_rules()
     ensures within { RulesWithin }

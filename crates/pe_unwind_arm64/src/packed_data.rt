@@ -1,15 +1,15 @@
 //! Packed unwind data: the numbers that say which canonical prologue and epilogue a function has.
 
 ghost use Rattle.std.specs.Prelude.{◌≡◌, ◌<◌, ◌^◌, IfOk};
-ghost use Rattle.pe_unwind_arm64.specs.Faults.{Gives};
+ghost use Rattle.pe_unwind_arm64.specs.UnwindErrors.{Gives};
 ghost use Rattle.pe_unwind_arm64.specs.Packed.{float_size, home_size, is_chained, is_moved, is_saved, is_signed, link_of};
 ghost use Rattle.pe_unwind_arm64.specs.Packed.{local_size, packed_length, packed_of, register_size, saved_size};
 ghost use Rattle.pe_unwind_arm64.specs.PackedData.{as_codes, ends_info, is_canonical, packed_info};
 
 use crate::canonical::{push_epilogue, push_prologue};
 use crate::epilogues::{last_epilogue, own_count};
-use crate::faults::{Refusal, UnwindFault};
 use crate::unwind_codes::{Operation, UnwindCode};
+use crate::unwind_errors::{EntryError, UnwindError};
 use crate::unwind_info::{UnwindInfo, single};
 use std::alloc::{AllocError, Global};
 
@@ -18,7 +18,7 @@ use std::alloc::{AllocError, Global};
 pub(crate) enum Link {
     /// Nothing.
     Kept,
-    /// It was stored behind the other registers.
+    /// It was stored after the other registers.
     Saved,
     /// It was signed and stored with x29, which was set to the stack pointer.
     SignedChain,
@@ -76,7 +76,7 @@ pub(crate) fn packed_of(number: u32) -> Packed
     }
 }
 
-/// Whether x30 was stored behind the other registers.
+/// Whether x30 was stored after the other registers.
 pub(crate) fn is_saved(link: Link) -> bool
     ensures { result ≡ is_saved link }
 {
@@ -178,7 +178,7 @@ fn ends_info(
     count: u32,
     index: usize,
     codes: Vec<UnwindCode>,
-) -> Result<UnwindInfo, UnwindFault>
+) -> Result<UnwindInfo, UnwindError>
     ensures { Gives (λ info. info) result (ends_info count index codes.items) }
 {
     let prologue = own_count(&codes)?;
@@ -196,14 +196,14 @@ pub(crate) fn packed_info(
     alloc: Global,
     packed: Packed,
     count: u32,
-) -> Result<UnwindInfo, UnwindFault>
+) -> Result<UnwindInfo, UnwindError>
     ensures { Gives (λ info. info) result (packed_info packed count) }
 {
     if !is_canonical(packed) {
-        return Err(UnwindFault::Refused(Refusal::PackedRegisters));
+        return Err(UnwindError::Refused(EntryError::PackedRegisters));
     }
     if packed.frame < saved_size(packed) {
-        return Err(UnwindFault::Refused(Refusal::PackedFrame));
+        return Err(UnwindError::Refused(EntryError::PackedFrame));
     }
     let mut operations = Vec::new(alloc);
     push_prologue(&mut operations, packed)?;

@@ -24,14 +24,14 @@ pub enum Register {
 
 /// A register that places are counted from.
 #[derive(Debug, Clone, Copy, PartialEq, Eq)]
-pub enum Base {
+pub enum BaseRegister {
     /// The stack pointer.
     Sp,
     /// The frame pointer, x29.
     Fp,
 }
 
-/// The register that is so many behind x19. Numbers above 10 are all taken for x30.
+/// The register that is so many after x19. Numbers above 10 are all taken for x30.
 pub(crate) fn numbered(number: usize) -> Register
     ensures { result ≡ register number }
 {
@@ -51,10 +51,10 @@ pub(crate) fn numbered(number: usize) -> Register
     }
 }
 
-/// How many registers behind x19 a register is, from 0 to 11.
+/// How many registers after x19 a register is, from 0 to 11.
 pub(crate) fn index(register: Register) -> usize
     ensures answer { result ≡ index register }
-    ensures few { result < 12 }
+    ensures bound { result < 12 }
 {
     match register {
         Register::X19 => 0,
@@ -72,7 +72,7 @@ pub(crate) fn index(register: Register) -> usize
     }
 }
 
-/// The register behind a register, which is stored above it where a pair is stored.
+/// The register after a register, which is stored above it where a pair is stored.
 pub(crate) fn second(first: Register) -> Register
     ensures { result ≡ second first }
 {
@@ -80,11 +80,11 @@ pub(crate) fn second(first: Register) -> Register
 }
 
 /// A number of its own for each register that places are counted from.
-pub(crate) fn base_number(base: Base) -> u8
+pub(crate) fn base_number(base: BaseRegister) -> u8
     ensures { result ≡ base_number base }
 {
     match base {
-        Base::Sp => 0,
-        Base::Fp => 1,
+        BaseRegister::Sp => 0,
+        BaseRegister::Fp => 1,
     }
 }

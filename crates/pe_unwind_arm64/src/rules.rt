@@ -4,13 +4,13 @@ ghost use Rattle.std.specs.Prelude.{◌≡◌, ◌↔◌, IsTrue, true};
 ghost use Rattle.pe_unwind_arm64.specs.Rules.{above, at_first, below_frame, codes_undone, is_end, less, popped};
 ghost use Rattle.pe_unwind_arm64.specs.Rules.{rules_behind, rules_of, stack_top, undone, with_pair, with_saved};
 
-use crate::registers::{Base, Register, index, second};
+use crate::registers::{BaseRegister, Register, index, second};
 use crate::unwind_codes::{Operation, UnwindCode};
 
 /// A place in memory: so many bytes above where a register points.
 #[derive(Debug, Clone, Copy, PartialEq, Eq)]
-pub struct Place {
-    pub base: Base,
+pub struct RegisterOffset {
+    pub base: BaseRegister,
     /// In bytes. A negative offset stands as its two's complement.
     pub offset: u64,
 }
@@ -19,26 +19,26 @@ pub struct Place {
 #[derive(Debug, Clone, Copy, PartialEq, Eq)]
 pub struct Rules {
     /// The caller's stack pointer, which is the canonical frame address.
-    pub cfa: Place,
+    pub cfa: RegisterOffset,
     /// Where the return address is stored. `None` if it is in x30 still.
-    pub return_address: Option<Place>,
+    pub return_address: Option<RegisterOffset>,
     /// Where each of the registers x19 to x30 is stored. `None` if the caller has the register's value still.
-    pub saved: [Option<Place>; 12],
+    pub saved: [Option<RegisterOffset>; 12],
 }
 
 /// What has been undone of a function's prologue.
 #[derive(Clone, Copy)]
 pub(crate) struct Unwound {
     /// Where the stack pointer points.
-    pub(crate) stack: Place,
-    pub(crate) saved: [Option<Place>; 12],
+    pub(crate) stack: RegisterOffset,
+    pub(crate) saved: [Option<RegisterOffset>; 12],
 }
 
 // A place so many bytes above another.
-fn above(place: Place, bytes: u64) -> Place
+fn above(place: RegisterOffset, bytes: u64) -> RegisterOffset
     ensures { result ≡ above place bytes }
 {
-    Place {
+    RegisterOffset {
         base: place.base,
         offset: place.offset.wrapping_add(bytes),
     }
@@ -52,21 +52,21 @@ pub(crate) fn less(address: u64, bytes: u64) -> u64
 }
 
 // Where the stack pointer points before anything is undone.
-fn stack_top() -> Place
+fn stack_top() -> RegisterOffset
     ensures { result ≡ stack_top }
 {
-    Place {
-        base: Base::Sp,
+    RegisterOffset {
+        base: BaseRegister::Sp,
         offset: 0,
     }
 }
 
 // The place so many bytes below where x29 points.
-fn below_frame(bytes: u32) -> Place
+fn below_frame(bytes: u32) -> RegisterOffset
     ensures { result ≡ below_frame bytes }
 {
-    Place {
-        base: Base::Fp,
+    RegisterOffset {
+        base: BaseRegister::Fp,
         offset: less(0, u64::from(bytes)),
     }
 }
@@ -82,7 +82,7 @@ fn at_first() -> Unwound
 }
 
 // With a register saved at a place.
-fn with_saved(register: Register, place: Place, unwound: Unwound) -> Unwound
+fn with_saved(register: Register, place: RegisterOffset, unwound: Unwound) -> Unwound
     ensures { result ≡ with_saved register place unwound }
 {
     let mut saved = unwound.saved;
@@ -94,14 +94,14 @@ fn with_saved(register: Register, place: Place, unwound: Unwound) -> Unwound
 }
 
 // With two registers saved, the second one 8 bytes above the first.
-fn with_pair(one: Register, other: Register, place: Place, unwound: Unwound) -> Unwound
+fn with_pair(one: Register, other: Register, place: RegisterOffset, unwound: Unwound) -> Unwound
     ensures { result ≡ with_pair one other place unwound }
 {
     with_saved(other, above(place, 8), with_saved(one, place, unwound))
 }
 
 // With the stack pointer at a place.
-fn with_stack(place: Place, unwound: Unwound) -> Unwound
+fn with_stack(place: RegisterOffset, unwound: Unwound) -> Unwound
     ensures { result ≡ record unwound { stack = place } }
 {
     let saved = unwound.saved;
@@ -193,7 +193,7 @@ pub(crate) fn rules_behind(count: usize, codes: &[UnwindCode]) -> Rules
 }
 
 // Whether two places are the same.
-fn is_same_place(a: Option<Place>, b: Option<Place>) -> bool
+fn is_same_place(a: Option<RegisterOffset>, b: Option<RegisterOffset>) -> bool
     ensures { IsTrue result ↔ (a ≡ b) }
 {
     match (a, b) {
@@ -204,7 +204,7 @@ fn is_same_place(a: Option<Place>, b: Option<Place>) -> bool
 }
 
 // Whether the same registers are saved at the same places.
-fn is_same_saved(a: &[Option<Place>], b: &[Option<Place>]) -> bool
+fn is_same_saved(a: &[Option<RegisterOffset>], b: &[Option<RegisterOffset>]) -> bool
     ensures { IsTrue result → a.now ≡ b.now }
 {
     if a.len() != b.len() {
@@ -219,14 +219,14 @@ fn is_same_saved(a: &[Option<Place>], b: &[Option<Place>]) -> bool
 }
 
 // Whether the caller's stack pointer is at the same place.
-fn is_same_cfa(a: Place, b: Place) -> bool
+fn is_same_cfa(a: RegisterOffset, b: RegisterOffset) -> bool
     ensures { IsTrue result → a ≡ b }
 {
     a == b
 }
 
 // Whether the return address is at the same place.
-fn is_same_return(a: Option<Place>, b: Option<Place>) -> bool
+fn is_same_return(a: Option<RegisterOffset>, b: Option<RegisterOffset>) -> bool
     ensures { IsTrue result → a ≡ b }
 {
     is_same_place(a, b)

@@ -6,8 +6,8 @@ ghost use Rattle.pe_unwind_arm64.specs.UnwindCodes.{large_number, long_operation
 ghost use Rattle.pe_unwind_arm64.specs.UnwindCodes.{operation_behind, operation_of, other_operation, own_operation};
 ghost use Rattle.pe_unwind_arm64.specs.UnwindCodes.{pair_behind, save_operation, short_operation};
 
-use crate::faults::Refusal;
 use crate::registers::{Register, index, numbered};
+use crate::unwind_errors::EntryError;
 use std::alloc::{AllocError, Global};
 
 const ALLOC_Z: u8 = 0xdf;
@@ -32,7 +32,7 @@ const CLEAR_UNWOUND_TO_CALL: u8 = 0xec;
 
 const PAC_SIGN_LR: u8 = 0xfc;
 
-/// How many pairs one is behind another at most.
+/// How many pairs one is after another at most.
 const MOST_PAIRS_BEHIND: usize = 4;
 
 /// What an instruction of the prologue did. Sizes and offsets are in bytes.
@@ -42,13 +42,13 @@ pub enum Operation {
     Allocate(u32),
     /// It stored a register, so far above the stack pointer.
     Save(Register, u32),
-    /// It stored a register and the one behind it, so far above the stack pointer.
+    /// It stored a register and the one after it, so far above the stack pointer.
     SavePair(Register, u32),
     /// It stored a register and x30, so far above the stack pointer.
     SaveWithLink(Register, u32),
     /// It moved the stack pointer down by so much, and stored a register there.
     Push(Register, u32),
-    /// It moved the stack pointer down by so much, and stored a register and the one behind it there.
+    /// It moved the stack pointer down by so much, and stored a register and the one after it there.
     PushPair(Register, u32),
     /// It stored a pair of registers of floating point numbers.
     SaveFloats,
@@ -65,7 +65,7 @@ pub enum Operation {
     /// No instruction: here the function's own codes end, and those of the function follow that it is a part of.
     EndChained,
     /// The code can't be undone.
-    Unusable(Refusal),
+    Unusable(EntryError),
 }
 
 /// An unwind code.
@@ -164,7 +164,7 @@ fn short_operation(byte: u8) -> Operation
     Operation::PushPair(Register::X29, (number - 0x80) * 8 + 8)
 }
 
-// The operation on a register, if there is such a register: the last of them is so many behind x19.
+// The operation on a register, if there is such a register: the last of them is so many after x19.
 fn if_known(last: u32, operation: Operation) -> Operation
     requires { IsNear operation }
     ensures near { IsNear result }
@@ -173,7 +173,7 @@ fn if_known(last: u32, operation: Operation) -> Operation
     if last <= 11 {
         operation
     } else {
-        Operation::Unusable(Refusal::UnknownRegister)
+        Operation::Unusable(EntryError::UnknownRegister)
     }
 }
 
@@ -235,7 +235,7 @@ fn long_operation(byte: u8, number: u32) -> Operation
         return save_operation(byte, number);
     }
     if byte == ALLOC_Z {
-        return Operation::Unusable(Refusal::ScalableVectors);
+        return Operation::Unusable(EntryError::ScalableVectors);
     }
     float_operation(byte, number)
 }
@@ -247,7 +247,7 @@ fn number_of_two(bytes: &[u8]) -> u32
     u32::from(byte_at(bytes, 0)) * 256 + u32::from(byte_at(bytes, 1))
 }
 
-// The number in the three bytes behind the first one of a code, the first of them the highest.
+// The number in the three bytes after the first one of a code, the first of them the highest.
 fn large_number(bytes: &[u8]) -> u32
     ensures answer { result ≡ large_number bytes.now }
     ensures large { result < 16777216 }
@@ -269,11 +269,11 @@ fn other_operation(byte: u8, bytes: &[u8]) -> Operation
         NOP => Operation::Unseen,
         END => Operation::End,
         END_C => Operation::EndChained,
-        SAVE_NEXT => Operation::Unusable(Refusal::NextOfNoPair),
-        SAVE_ANY_REG => Operation::Unusable(Refusal::AnyRegister),
-        _ if byte <= CLEAR_UNWOUND_TO_CALL => Operation::Unusable(Refusal::CustomStack),
+        SAVE_NEXT => Operation::Unusable(EntryError::NextOfNoPair),
+        SAVE_ANY_REG => Operation::Unusable(EntryError::AnyRegister),
+        _ if byte <= CLEAR_UNWOUND_TO_CALL => Operation::Unusable(EntryError::CustomStack),
         PAC_SIGN_LR => Operation::Unseen,
-        _ => Operation::Unusable(Refusal::UnknownCode),
+        _ => Operation::Unusable(EntryError::UnknownCode),
     }
 }
 
@@ -284,7 +284,7 @@ fn own_operation(bytes: &[u8]) -> Operation
 {
     let byte = byte_at(bytes, 0);
     if bytes.len() < code_size(byte) {
-        return Operation::Unusable(Refusal::CodesCut);
+        return Operation::Unusable(EntryError::CodesCut);
     }
     if byte < 0xc0 {
         return short_operation(byte);
@@ -295,7 +295,7 @@ fn own_operation(bytes: &[u8]) -> Operation
     other_operation(byte, bytes)
 }
 
-// The pair that is so many pairs behind one.
+// The pair that is so many pairs after one.
 fn pair_behind(count: usize, first: Register, offset: u32) -> Operation
     requires count { count ≤ 5 }
     requires offset { offset < 1024 }
@@ -305,11 +305,11 @@ fn pair_behind(count: usize, first: Register, offset: u32) -> Operation
     if behind <= 8 {
         Operation::SavePair(numbered(behind), offset + 16 * count as u32)
     } else {
-        Operation::Unusable(Refusal::NextOfNoPair)
+        Operation::Unusable(EntryError::NextOfNoPair)
     }
 }
 
-// What the first of so many save_next codes says that was done, by the operation of the code behind them.
+// What the first of so many save_next codes says that was done, by the operation of the code after them.
 fn operation_behind(count: usize, operation: Operation) -> Operation
     requires count { count ≤ 5 }
     requires near { IsNear operation }
@@ -319,7 +319,7 @@ fn operation_behind(count: usize, operation: Operation) -> Operation
         Operation::SavePair(first, offset) => pair_behind(count, first, offset),
         Operation::PushPair(first, _) => pair_behind(count, first, 0),
         Operation::SaveFloats | Operation::PushFloats(_) => Operation::SaveFloats,
-        _ => Operation::Unusable(Refusal::NextOfNoPair),
+        _ => Operation::Unusable(EntryError::NextOfNoPair),
     }
 }
 
@@ -330,7 +330,7 @@ fn is_next(bytes: &[u8]) -> bool
     byte_at(bytes, 0) == SAVE_NEXT
 }
 
-// What a save_next code says that was done, by the bytes behind it.
+// What a save_next code says that was done, by the bytes after it.
 fn next_operation(bytes: &[u8]) -> Operation
     ensures { result ≡ next_operation bytes.now }
 {

@@ -1,13 +1,13 @@
 //! The unwind info of a function, as a record of its own (.xdata) says it.
 
 ghost use Rattle.std.specs.Prelude.{◌≡◌, ◌≤◌, ◌<◌, ◌+◌, ◌^◌, ◌∷◌, [], Ok, IfOk};
-ghost use Rattle.pe_unwind_arm64.specs.Faults.{Gives};
+ghost use Rattle.pe_unwind_arm64.specs.UnwindErrors.{Gives};
 ghost use Rattle.pe_unwind_arm64.specs.UnwindInfo.{epilogues_by, extended_header, first_scope, header_in, header_of};
 ghost use Rattle.pe_unwind_arm64.specs.UnwindInfo.{header_with, info_by, info_in, scope_bytes, scope_of, scopes_in};
 
 use crate::epilogues::{Epilogue, epilogue_of, last_epilogue, own_count};
-use crate::faults::{Refusal, UnwindFault};
 use crate::unwind_codes::{UnwindCode, bytes_behind, codes_in};
+use crate::unwind_errors::{EntryError, UnwindError};
 use pe_image::{bytes_at, u32_at};
 use std::alloc::Global;
 use std::marker::Model;
@@ -54,17 +54,17 @@ pub(crate) struct Header {
 }
 
 /// What the unwind info says that begins with these bytes.
-pub(crate) fn info_in(alloc: Global, bytes: &[u8]) -> Result<UnwindInfo, UnwindFault>
+pub(crate) fn info_in(alloc: Global, bytes: &[u8]) -> Result<UnwindInfo, UnwindError>
     ensures answer { Gives (λ info. info) result (info_in bytes.now) }
 {
     let header = header_in(bytes)?;
     let size = scope_bytes(header);
     let Some(scopes) = bytes_at(bytes, header.size, size) else {
-        return Err(UnwindFault::Refused(Refusal::InfoOutsideOfImage));
+        return Err(UnwindError::Refused(EntryError::InfoOutsideOfImage));
     };
     let listed = header.words as usize;
     let Some(listed) = bytes_at(bytes, header.size + size, WORD * listed) else {
-        return Err(UnwindFault::Refused(Refusal::CodesCut));
+        return Err(UnwindError::Refused(EntryError::CodesCut));
     };
     info_by(alloc, header, scopes, codes_in(alloc, listed)?)
 }
@@ -74,7 +74,7 @@ fn header_of(word: u32) -> Header
     ensures answer { result ≡ header_of word }
     ensures small { result.length < 2 ^ 18 }
     ensures near { result.size ≤ 8 }
-    ensures few { result.epilogues < 2 ^ 16 }
+    ensures bound { result.epilogues < 2 ^ 16 }
     ensures short { result.words < 2 ^ 8 }
 {
     Header {
@@ -91,7 +91,7 @@ fn header_with(word: u32, more: u32) -> Header
     ensures answer { result ≡ header_with word more }
     ensures small { result.length < 2 ^ 18 }
     ensures near { result.size ≤ 8 }
-    ensures few { result.epilogues < 2 ^ 16 }
+    ensures bound { result.epilogues < 2 ^ 16 }
     ensures short { result.words < 2 ^ 8 }
 {
     let first = header_of(word);
@@ -105,32 +105,32 @@ fn header_with(word: u32, more: u32) -> Header
 }
 
 // The header of two words.
-fn extended_header(word: u32, bytes: &[u8]) -> Result<Header, Refusal>
+fn extended_header(word: u32, bytes: &[u8]) -> Result<Header, EntryError>
     ensures answer { result ≡ extended_header word bytes.now }
     ensures small { IfOk result (λ header. header.length < 2 ^ 18) }
     ensures near { IfOk result (λ header. header.size ≤ 8) }
-    ensures few { IfOk result (λ header. header.epilogues < 2 ^ 16) }
+    ensures bound { IfOk result (λ header. header.epilogues < 2 ^ 16) }
     ensures short { IfOk result (λ header. header.words < 2 ^ 8) }
 {
     match u32_at(bytes, WORD) {
-        None => Err(Refusal::InfoOutsideOfImage),
+        None => Err(EntryError::InfoOutsideOfImage),
         Some(more) => Ok(header_with(word, more)),
     }
 }
 
 /// The header that bytes begin with.
-pub(crate) fn header_in(bytes: &[u8]) -> Result<Header, Refusal>
+pub(crate) fn header_in(bytes: &[u8]) -> Result<Header, EntryError>
     ensures answer { result ≡ header_in bytes.now }
     ensures small { IfOk result (λ header. header.length < 2 ^ 18) }
     ensures near { IfOk result (λ header. header.size ≤ 8) }
-    ensures few { IfOk result (λ header. header.epilogues < 2 ^ 16) }
+    ensures bound { IfOk result (λ header. header.epilogues < 2 ^ 16) }
     ensures short { IfOk result (λ header. header.words < 2 ^ 8) }
 {
     let Some(word) = u32_at(bytes, 0) else {
-        return Err(Refusal::InfoOutsideOfImage);
+        return Err(EntryError::InfoOutsideOfImage);
     };
     if word / 0x4_0000 % 4 != 0 {
-        return Err(Refusal::UnknownVersion);
+        return Err(EntryError::UnknownVersion);
     }
     if word / 0x40_0000 == 0 {
         return extended_header(word, bytes);
@@ -142,7 +142,7 @@ pub(crate) fn header_in(bytes: &[u8]) -> Result<Header, Refusal>
 fn scope_bytes(header: Header) -> usize
     requires few { header.epilogues < 2 ^ 16 }
     ensures answer { result ≡ scope_bytes header }
-    ensures few { result < 2 ^ 18 }
+    ensures bound { result < 2 ^ 18 }
 {
     if header.is_single {
         return 0;
@@ -156,7 +156,7 @@ fn info_by(
     header: Header,
     scopes: &[u8],
     codes: Vec<UnwindCode>,
-) -> Result<UnwindInfo, UnwindFault>
+) -> Result<UnwindInfo, UnwindError>
     ensures answer { Gives (λ info. info) result (info_by header scopes.now codes.items) }
 {
     let prologue = own_count(&codes)?;
@@ -174,7 +174,7 @@ fn epilogues_by(
     header: Header,
     codes: &[UnwindCode],
     scopes: &[u8],
-) -> Result<Vec<Epilogue>, UnwindFault>
+) -> Result<Vec<Epilogue>, UnwindError>
     ensures answer { Gives (λ epilogues. epilogues.items) result (epilogues_by header codes.now scopes.now) }
 {
     if header.is_single {
@@ -185,7 +185,7 @@ fn epilogues_by(
 }
 
 /// One epilogue alone.
-pub(crate) fn single(alloc: Global, one: Epilogue) -> Result<Vec<Epilogue>, UnwindFault>
+pub(crate) fn single(alloc: Global, one: Epilogue) -> Result<Vec<Epilogue>, UnwindError>
     ensures answer { Gives (λ epilogues. epilogues.items) result (Ok (one ∷ [])) }
 {
     let mut epilogues = Vec::new(alloc);
@@ -194,7 +194,12 @@ pub(crate) fn single(alloc: Global, one: Epilogue) -> Result<Vec<Epilogue>, Unwi
 }
 
 // The epilogue that an epilogue scope says.
-fn scope_of(reach: usize, length: u32, codes: &[UnwindCode], word: u32) -> Result<Epilogue, Refusal>
+fn scope_of(
+    reach: usize,
+    length: u32,
+    codes: &[UnwindCode],
+    word: u32,
+) -> Result<Epilogue, EntryError>
     ensures answer { result ≡ scope_of reach length codes.now word }
 {
     epilogue_of(
@@ -221,7 +226,7 @@ fn scopes_in(
     length: u32,
     codes: &[UnwindCode],
     bytes: &[u8],
-) -> Result<Vec<Epilogue>, UnwindFault>
+) -> Result<Vec<Epilogue>, UnwindError>
     ensures answer { Gives (λ read. read.items) result (scopes_in count length codes.now bytes.now) }
 {
     let mut read = Vec::new(alloc);

@@ -1,4 +1,4 @@
-//! A box while its owner has its pointer alone.
+//! A box as a raw pointer with its allocator, while a handle keeps it between two calls from C.
 ghost use Rattle.std.specs.Prelude.{◌≡◌};
 ghost use Rattle.std_alloc.specs.Box.Ownership.{box_owns};
 

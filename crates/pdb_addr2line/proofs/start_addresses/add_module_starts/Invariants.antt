@@ -1,5 +1,5 @@
 use Rattle.std.proofs.Common.{◌≡◌, map, drop}
-use Rattle.pdb_addr2line.specs.Functions.{procedures_of_modules, with_starts}
+use Rattle.pdb_addr2line.specs.FunctionIter.{procedures_of_modules, with_starts}
 use Rattle.pdb_addr2line.proofs.start_addresses.add_module_starts.Given as goal
 
 -- the addresses so far, with those of the modules that are left, are all addresses; the provider stays

@@ -1,6 +1,6 @@
 use Rattle.std.proofs.Common.{◌≡◌, map, drop}
 use Rattle.pdb_functions.specs.Procedures.{module_procedure}
-use Rattle.pdb_addr2line.specs.Functions.{with_starts}
+use Rattle.pdb_addr2line.specs.FunctionIter.{with_starts}
 use Rattle.pdb_addr2line.proofs.start_addresses.add_procedure_starts.Given as goal
 
 -- the addresses so far, with those of the procedures that are left, are all addresses

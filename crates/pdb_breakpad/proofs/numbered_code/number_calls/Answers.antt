@@ -1,6 +1,6 @@
 -- One call more, and all of them.
 use Rattle.std.proofs.Common.{◌+◌, arith, map, subst, sym, take}
-use Rattle.pdb_breakpad.specs.FrameTexts.{frame_text}
+use Rattle.pdb_breakpad.specs.ShownNames.{frame_text}
 use Rattle.pdb_breakpad.specs.NumberedCode.{AreCalls}
 use Rattle.pdb_breakpad.specs.ShownFrames.{calls_in}
 use Rattle.pdb_breakpad.proofs.FunctionRecordLemmas.{all_calls, next_call}

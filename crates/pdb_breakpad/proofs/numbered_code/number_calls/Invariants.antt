@@ -1,6 +1,6 @@
 -- The calls so far stand for those between the frames so far, and names keep their numbers.
 use Rattle.std.proofs.Common.{map, take}
-use Rattle.pdb_breakpad.specs.FrameTexts.{frame_text}
+use Rattle.pdb_breakpad.specs.ShownNames.{frame_text}
 use Rattle.pdb_breakpad.specs.NumberedCode.{AreCalls, KeepsAllNames}
 use Rattle.pdb_breakpad.specs.ShownFrames.{calls_in}
 use Rattle.pdb_breakpad.proofs.numbered_code.number_calls.Given as goal

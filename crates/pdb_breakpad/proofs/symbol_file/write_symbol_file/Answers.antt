@@ -5,7 +5,7 @@ use Rattle.std.specs.Io.KnownBytes.{Appends}
 use Rattle.std.specs.List.{flat_map}
 use Rattle.std.proofs.KnownBytes.{Appends-kept, Appends-trans}
 use Rattle.pdb_breakpad.specs.FunctionTexts.{function_text}
-use Rattle.pdb_breakpad.specs.Functions.{WritesFunctions}
+use Rattle.pdb_breakpad.specs.FunctionWalk.{WritesFunctions}
 use Rattle.pdb_breakpad.specs.SymbolFile.{names_text, symbol_file_text}
 use Rattle.pdb_breakpad.proofs.WalkLemmas.{written_for_first}
 use Rattle.pdb_breakpad.proofs.symbol_file.write_symbol_file.Goals as goal

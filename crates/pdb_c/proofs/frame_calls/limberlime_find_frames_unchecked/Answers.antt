@@ -1,5 +1,5 @@
 use Rattle.std.proofs.Common.{rules}
-use Rattle.pdb_c.specs.FrameAnswers.{shown_result}
+use Rattle.pdb_c.specs.AnswerBuffers.{shown_result}
 use Rattle.pdb_c.specs.Questions.{answer_of_handle}
 use Rattle.pdb_c.specs.declared.found_frames.Question.TheVariants.{Frames}
 use Rattle.pdb_c.proofs.FrameLemmas.{handle_alike, shown_agrees, shown_alike}

@@ -1,6 +1,6 @@
 use Rattle.std.proofs.Common.{◌++◌, drop}
 use Rattle.std.specs.List.{flat_map}
-use Rattle.pdb_change_points.specs.Members.{HaveSameMembers}
+use Rattle.pdb_change_points.specs.UniqueNumbers.{HaveSameMembers}
 use Rattle.pdb_change_points.specs.ModulePoints.{answer_points}
 use Rattle.pdb_change_points.proofs.module_points.add_modules_points.Given as goal
 

@@ -5,10 +5,10 @@ use Rattle.pdb_records.specs.Records.{Records}
 use Rattle.pdb_records.specs.declared.error.StreamError.{StreamError}
 use Rattle.pdb_records.specs.declared.modules.ModuleInfo.{ModuleInfo}
 use Rattle.std.specs.Result.{result_unwrap_or}
-use Rattle.pdb_functions.specs.Contributions.{merged_contributions}
+use Rattle.pdb_functions.specs.MergedContributions.{merged_contributions}
 use Rattle.pdb_functions.specs.GlobalFunctions.{global_functions}
 use Rattle.pdb_change_points.specs.ChangePoints.{program_points}
-use Rattle.pdb_change_points.specs.Members.{HaveSameMembers}
+use Rattle.pdb_change_points.specs.UniqueNumbers.{HaveSameMembers}
 use Rattle.pdb_change_points.proofs.ContextLemmas.{front_of, change_points_made, never_refused}
 use Rattle.pdb_change_points.proofs.PieceLemmas.{answered}
 use Rattle.pdb_change_points.proofs.program_points.change_points.Goals as goal

@@ -1,4 +1,4 @@
--- The names and the table's size, and what stands behind the bits.
+-- The names and the table's size, and what stands after the bits.
 use Rattle.std.proofs.Common.{◌≡◌, ◌∙◌, ◌+◌, ◌<◌, length, ap, arith}
 use Rattle.std.proofs.lemmas.Grind.{common_steps}
 use Rattle.pdb_msf.specs.NumberLists.{number}

@@ -1,7 +1,7 @@
 use Rattle.std.proofs.Common.{sym}
-use Rattle.pdb_documents.specs.Ids.{id_of_index}
-use Rattle.pdb_documents.specs.Printed.{document_of}
-use Rattle.pdb_documents.specs.PrintInputs.{formatter_inputs}
+use Rattle.pdb_type_texts.specs.Ids.{id_of_index}
+use Rattle.pdb_type_texts.specs.Printed.{document_of}
+use Rattle.pdb_type_texts.specs.PrintInputs.{formatter_inputs}
 use Rattle.pdb_function_info.proofs.CachedNameLemmas.{id_key, ids_later, id_found, more_broken, printed_now}
 use Rattle.pdb_function_info.proofs.cached_names.id_once.Goals as goal
 

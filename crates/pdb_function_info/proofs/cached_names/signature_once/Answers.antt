@@ -1,7 +1,7 @@
 use Rattle.std.proofs.Common.{◌∙◌, sym}
-use Rattle.pdb_documents.specs.Printed.{document_of}
-use Rattle.pdb_documents.specs.Signatures.{signature}
-use Rattle.pdb_documents.specs.PrintInputs.{formatter_inputs}
+use Rattle.pdb_type_texts.specs.Printed.{document_of}
+use Rattle.pdb_type_texts.specs.Signatures.{signature}
+use Rattle.pdb_type_texts.specs.PrintInputs.{formatter_inputs}
 use Rattle.pdb_function_info.specs.CachedNames.{IsSignatureCache}
 use Rattle.pdb_function_info.proofs.CachedNameLemmas.{signature_key, signatures_later, signature_found, more_broken}
 use Rattle.pdb_function_info.proofs.CachedNameLemmas.{printed_by_symbol, printed_now}

@@ -1,4 +1,4 @@
 use Rattle.pdb_function_info.proofs.frames.frames_of_function.Given as goal
 
-abbrev pub ghost-origin : goal.ghost-origin
-ghost-origin g a = g.records
+abbrev pub ghost-code_location : goal.ghost-code_location
+ghost-code_location g a = g.records

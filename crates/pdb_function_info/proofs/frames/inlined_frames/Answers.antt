@@ -1,6 +1,6 @@
 use Rattle.std.proofs.Common.{rules, arith}
 use Rattle.std.proofs.lemmas.Grind.{common_steps}
-use Rattle.pdb_signatures.proofs.LoopLemmas.{adds-then}
+use Rattle.pdb_type_printer.proofs.LoopLemmas.{adds-then}
 use Rattle.pdb_function_info.proofs.frames.inlined_frames.Goals as goal
 
 pub returns-in_err-function-clause-broken : goal.returns-in_err-function-clause-broken

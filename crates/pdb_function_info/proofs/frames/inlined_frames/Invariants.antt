@@ -1,6 +1,6 @@
 use Rattle.std.proofs.Common.{◌≡◌, ◌++◌, drop}
-use Rattle.pdb_documents.specs.BrokenParts.{AddsBroken}
-use Rattle.pdb_documents.specs.PrintInputs.{formatter_inputs}
+use Rattle.pdb_type_texts.specs.BrokenParts.{AddsBroken}
+use Rattle.pdb_type_texts.specs.PrintInputs.{formatter_inputs}
 use Rattle.pdb_function_info.specs.Frames.{inlined_frames, failed_by_ids}
 use Rattle.pdb_function_info.specs.NameTexts.{id_name, failed_by_id}
 use Rattle.pdb_function_info.proofs.frames.inlined_frames.Given as goal

@@ -1,7 +1,7 @@
 use Rattle.std.proofs.lemmas.Result.{MatchResult-weaker}
-use Rattle.pdb_documents.specs.Ids.{id_of_index}
-use Rattle.pdb_documents.specs.Printed.{document_of}
-use Rattle.pdb_documents.specs.PrintInputs.{formatter_inputs}
+use Rattle.pdb_type_texts.specs.Ids.{id_of_index}
+use Rattle.pdb_type_texts.specs.Printed.{document_of}
+use Rattle.pdb_type_texts.specs.PrintInputs.{formatter_inputs}
 use Rattle.pdb_function_info.proofs.NameLemmas.{printed-text, refused-text}
 use Rattle.pdb_function_info.proofs.printed_names.name_of_id.Goals as goal
 

@@ -1,7 +1,7 @@
 use Rattle.std.proofs.Common.{ap, ◌∙◌, ◌≡◌, ◌++◌, map, arith}
 use Rattle.std.specs.List.{filter_map}
 use Rattle.std.proofs.lemmas.Grind.{common_steps}
-use Rattle.pdb_functions.specs.Sections.{section_ends}
+use Rattle.pdb_functions.specs.CodeSections.{section_ends}
 use Rattle.pdb_tables.proofs.KeyedLemmas.{firsts_ascend, map-first_of_each_key}
 use Rattle.pdb_functions.specs.Starts.{section_offset_cmp, first_of_each_start}
 use Rattle.pdb_functions.specs.GlobalFunctions.{global_function, public_function, placeholder}

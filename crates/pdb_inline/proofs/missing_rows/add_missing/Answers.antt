@@ -1,6 +1,6 @@
 use Rattle.std.proofs.Common.{◌≡◌, refl}
 use Rattle.std.proofs.lemmas.Result.{on_ok_weaker}
-use Rattle.pdb_inline.specs.InlineRows.{row_ranges}
+use Rattle.pdb_inline.specs.SiteRows.{row_ranges}
 use Rattle.pdb_tables.specs.Runs.{missing_runs}
 use Rattle.pdb_inline.specs.InlineRanges.{first_file}
 use Rattle.pdb_tables.proofs.MissingRunLemmas.{missing_runs_are}

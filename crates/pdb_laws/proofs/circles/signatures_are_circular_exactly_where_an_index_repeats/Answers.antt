@@ -1,7 +1,7 @@
-use Rattle.pdb_documents.specs.PrintInputs.{print_inputs_of}
-use Rattle.pdb_documents.specs.Signatures.{signature}
-use Rattle.pdb_documents.proofs.DocumentLemmas.{document-unfolds}
-use Rattle.pdb_documents.proofs.UnfoldingLemmas.{print_inputs-below}
+use Rattle.pdb_type_texts.specs.PrintInputs.{print_inputs_of}
+use Rattle.pdb_type_texts.specs.Signatures.{signature}
+use Rattle.pdb_type_texts.proofs.DocumentLemmas.{document-unfolds}
+use Rattle.pdb_type_texts.proofs.UnfoldingLemmas.{print_inputs-below}
 use Rattle.pdb_laws.proofs.ReadLemmas.{print_inputs_are_good}
 use Rattle.pdb_laws.proofs.PlanLemmas.{good_signature}
 use Rattle.pdb_laws.proofs.CircleLemmas.{IsOther, others, circle_met, circle_refused}

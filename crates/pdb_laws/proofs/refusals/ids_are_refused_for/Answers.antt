@@ -1,7 +1,7 @@
-use Rattle.pdb_documents.specs.Ids.{id_of_index}
-use Rattle.pdb_documents.specs.PrintInputs.{print_inputs_of}
-use Rattle.pdb_documents.proofs.DocumentLemmas.{document-unfolds}
-use Rattle.pdb_documents.proofs.UnfoldingLemmas.{print_inputs-below}
+use Rattle.pdb_type_texts.specs.Ids.{id_of_index}
+use Rattle.pdb_type_texts.specs.PrintInputs.{print_inputs_of}
+use Rattle.pdb_type_texts.proofs.DocumentLemmas.{document-unfolds}
+use Rattle.pdb_type_texts.proofs.UnfoldingLemmas.{print_inputs-below}
 use Rattle.pdb_laws.specs.PrintErrors.{IsPrintError}
 use Rattle.pdb_laws.proofs.ReadLemmas.{print_inputs_are_good}
 use Rattle.pdb_laws.proofs.RefusalLemmas.{print_errors, refused_for}

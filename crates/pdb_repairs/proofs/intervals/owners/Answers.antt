@@ -14,6 +14,6 @@ returns c =
     c.in_ok-sorted.ensures in
     let mapped : c.deref-2.result.now ≡ map segment_of c.in_ok-sorted.sorted.items =
     c.deref-2.ensures.value ∙ c.in_ok-segments.ensures ∙ ap (map segment_of) c.deref.ensures.value in
-    IfOk-weaker c.of_painted.result _ _
+    IfOk-weaker c.from_overlapping.result _ _
     (λ table painted byte. painted byte ∙ ap (λ segments. painted_in_turn segments None byte) mapped
-    ∙ owner_painted c.args.claims.now c.in_ok-sorted.sorted.items byte sorted) c.of_painted.ensures.answer
+    ∙ owner_painted c.args.claims.now c.in_ok-sorted.sorted.items byte sorted) c.from_overlapping.ensures.answer

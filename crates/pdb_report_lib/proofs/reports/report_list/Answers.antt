@@ -1,7 +1,7 @@
 use Rattle.std.proofs.Common.{◌≡◌, ◌∙◌, ◌<◌, [], ◌∷◌, length, get_or, ap, subst, arith}
 use Rattle.std.proofs.lemmas.List.{take_all}
 use Rattle.pdb_addr2line.proofs.FunctionLemmas.{after_one_more, on_error}
-use Rattle.pdb_addr2line.specs.Functions.{functions_at, after_functions, start_addresses, IsCutShort}
+use Rattle.pdb_addr2line.specs.FunctionIter.{functions_at, after_functions, start_addresses, IsCutShort}
 use Rattle.pdb_report_lib.specs.PrintedLines.{list_text}
 use Rattle.pdb_report_lib.specs.Reports.{EndsListEarly}
 use Rattle.pdb_report_lib.specs.Sinks.{Takes}

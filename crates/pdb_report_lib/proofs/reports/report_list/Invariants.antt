@@ -1,5 +1,5 @@
 use Rattle.std.proofs.Common.{◌≡◌, take}
-use Rattle.pdb_addr2line.specs.Functions.{functions_at, after_functions}
+use Rattle.pdb_addr2line.specs.FunctionIter.{functions_at, after_functions}
 use Rattle.pdb_report_lib.specs.PrintedLines.{list_text}
 use Rattle.pdb_report_lib.specs.Sinks.{Takes}
 use Rattle.pdb_report_lib.proofs.reports.report_list.Given as goal

@@ -1,5 +1,5 @@
 use Rattle.std.proofs.Common.{◌≡◌, take}
-use Rattle.pdb_addr2line.specs.Functions.{after_functions}
+use Rattle.pdb_addr2line.specs.FunctionIter.{after_functions}
 use Rattle.pdb_report_lib.specs.Reports.{function_text, addresses_text, TakesText}
 use Rattle.pdb_report_lib.proofs.reports.report_names.Given as goal
 

@@ -1,7 +1,7 @@
 -- The modules so far, with those at the places that are left, are those at all places, and the source says what it said.
 use Rattle.std.proofs.Common.{◌≡◌, ◌++◌, drop, map}
 use Rattle.pdb_container.specs.ModulePlaces.{module_of}
-use Rattle.pdb_msf.specs.StreamMap.{IfFile, with_bytes}
+use Rattle.pdb_msf.specs.MsfLayout.{IfFile, with_bytes}
 use Rattle.pdb_session.proofs.module_reads.read_modules.Given as goal
 
 abbrev pub invariant-loop-place : goal.invariant-loop-place

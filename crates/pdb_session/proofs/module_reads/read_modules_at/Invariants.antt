@@ -1,6 +1,6 @@
 -- The modules so far are as their own streams have them, and the source says what it said.
 use Rattle.std.proofs.Common.{◌≡◌, All}
-use Rattle.pdb_msf.specs.StreamMap.{IfFile}
+use Rattle.pdb_msf.specs.MsfLayout.{IfFile}
 use Rattle.pdb_session.specs.FileParts.{IsReadFrom}
 use Rattle.pdb_session.proofs.module_reads.read_modules_at.Given as goal
 

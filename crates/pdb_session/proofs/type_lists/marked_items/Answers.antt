@@ -2,7 +2,7 @@
 use Rattle.std.proofs.Common.{◌≡◌, ◌∙◌, Some, None, ap, sym, append-nil, arith}
 use Rattle.pdb_msf.specs.StreamBlocks.{said_in}
 use Rattle.pdb_tpi.proofs.SaidLemmas.{of_said, where_said}
-use Rattle.pdb_tpi.specs.Items.{item_of}
+use Rattle.pdb_tpi.specs.ItemStreams.{item_of}
 use Rattle.pdb_tpi.specs.TypePlaces.{list_at}
 use Rattle.pdb_session.proofs.MarkedItemLemmas.{marked_made, none_marked_more, one_marked_more}
 use Rattle.pdb_session.proofs.type_lists.marked_items.Goals as goal

@@ -1,7 +1,7 @@
 -- All marked items are those made so far and those of the records left; the window shows the records.
 use Rattle.std.proofs.Common.{◌≡◌, ◌++◌, List, ℕ, Some, drop}
 use Rattle.pdb_msf.specs.StreamBlocks.{said_in}
-use Rattle.pdb_tpi.specs.Items.{item_of}
+use Rattle.pdb_tpi.specs.ItemStreams.{item_of}
 use Rattle.pdb_tpi.specs.RecordWindows.{Shows, records_in}
 use Rattle.pdb_tpi.specs.TypePlaces.{LieIn, list_at}
 use Rattle.pdb_session.specs.MarkedItems.{marked_from}

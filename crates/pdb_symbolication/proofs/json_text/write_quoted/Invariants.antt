@@ -1,4 +1,4 @@
--- What is written, behind the quotation mark, are the characters so far.
+-- What is written, after the quotation mark, are the characters so far.
 use Rattle.std.proofs.Common.{◌≡◌, ◌++◌, string_bytes}
 use Rattle.std.specs.List.{flat_map}
 use Rattle.pdb_symbolication.specs.JsonTexts.{quoted_character}

@@ -3,7 +3,7 @@ use Rattle.std.proofs.Common.{sym, ℕ, List, [], ◌++◌, append-nil, codes, O
 use Rattle.pdb_symbolication.specs.JsonObjects.{separated}
 use Rattle.pdb_symbolication.specs.RequestAnswers.{answer_text, job_answers}
 use Rattle.pdb_symbolication.specs.declared.frame_texts.FrameTexts.{FrameTexts}
-use Rattle.pdb_symbolication.specs.declared.requests.Request.{Request}
+use Rattle.pdb_symbolication.specs.declared.requests.SymbolicationRequest.{SymbolicationRequest}
 use Rattle.pdb_symbolication.specs.declared.wanted_modules.WantedModules.{WantedModules}
 use Rattle.pdb_symbolication.proofs.AnswerTextLemmas.{answer_parts}
 use Rattle.pdb_symbolication.proofs.WriteLemmas.{Goes, goes_first, goes_as}
@@ -11,7 +11,7 @@ use Rattle.pdb_symbolication.proofs.WriteLemmas.{fails_amid, goes_amid, goes_flu
 use Rattle.pdb_symbolication.proofs.request_answers.write_answer.Goals as goal
 
 -- at first all of the answer is left
-first_of : (known : Option (List ℕ)) (request : Request) (wanted : WantedModules) (found : List (Option FrameTexts))
+first_of : (known : Option (List ℕ)) (request : SymbolicationRequest) (wanted : WantedModules) (found : List (Option FrameTexts))
     → Goes known known (codes "{\"results\":[" ++ (separated (job_answers wanted found 0 request.jobs.items)
     ++ codes "]}\n")) (answer_text request wanted found)
 first_of known request wanted found =

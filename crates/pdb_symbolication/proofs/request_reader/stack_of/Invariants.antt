@@ -1,7 +1,11 @@
--- The frames that were read name one of the modules, or none that is known.
-use Rattle.std.proofs.Common.{All}
-use Rattle.pdb_symbolication.specs.Requests.{IsOneOf}
+-- The frames that were read, and those that are left, say what the array does.
+use Rattle.std.proofs.Common.{◌≡◌, drop}
+use Rattle.serde_json.specs.View.{items_view}
+use Rattle.pdb_symbolication.specs.RequestValues.{elements_from, frame_of}
+use Rattle.pdb_symbolication.proofs.RequestLemmas.{after}
 use Rattle.pdb_symbolication.proofs.request_reader.stack_of.Given as goal
 
 abbrev pub invariant-loop-number : goal.invariant-loop-number
-invariant-loop-number l = All (λ frame. IsOneOf l.modules frame.module) l.frames.items
+invariant-loop-number l =
+    elements_from 0 (frame_of l.modules) (items_view l.values)
+    ≡ after l.frames.items (elements_from l.number (frame_of l.modules) (items_view (drop l.number l.values)))

@@ -16,7 +16,7 @@ returns-in_ok-queue-clause-answer g c =
     = record {
       given = c.new-questions.ensures.options;
       named = c.new-questions.ensures.file;
-      loaded = c.new-questions.ensures.origin;
+      loaded = c.new-questions.ensures.image_base;
       names = λ start. ap (λ names. known_name names start) c.new-questions.ensures.names
           ∙ (c.in_ok-names.ensures.functions start
           ∙ ap (λ records. function_name options records start) c.records.ensures);
@@ -43,7 +43,7 @@ returns-else-is_empty-clause-answer g c =
     = record {
       given = c.new-questions.ensures.options;
       named = c.new-questions.ensures.file;
-      loaded = c.new-questions.ensures.origin;
+      loaded = c.new-questions.ensures.image_base;
       names = λ start. ap (λ names. known_name names start) c.new-questions.ensures.names
           ∙ (c.in_ok-names.ensures.functions start
           ∙ ap (λ records. function_name options records start) c.records.ensures);

@@ -1,4 +1,4 @@
--- The answers one after the other, with what stands before, between and behind them.
+-- The answers one after the other, with what stands before, between and after them.
 use Rattle.std.proofs.Common.{◌≡◌, ◌∙◌, sym, subst, ℕ, ◌<◌, ◌≤◌, length, List, ◌++◌, get_or, map}
 use Rattle.std.proofs.Common.{string_bytes, Bor, [], arith}
 use Rattle.std.specs.Prelude.{◌==◌}

@@ -25,7 +25,7 @@ returns-in_ok-segments-clause-state g c =
     rw (c.in_ok-segments.ensures, c.deref-else-end_of-lo.ensures.value)
     (λ x. value_at-painted x (record { start = c.args.lo; end = c.args.hi; value = c.args.value }) _ c.if-hi-lo.false)
 
-pub returns-in_ok-segments-clause-few : goal.returns-in_ok-segments-clause-few
-returns-in_ok-segments-clause-few g c =
+pub returns-in_ok-segments-clause-bound : goal.returns-in_ok-segments-clause-bound
+returns-in_ok-segments-clause-bound g c =
     rw (c.in_ok-segments.ensures, c.deref-else-end_of-lo.ensures.value)
     (length-painted (record { start = c.args.lo; end = c.args.hi; value = c.args.value }) _ c.if-hi-lo.false c.requires)

@@ -3,7 +3,7 @@ use Rattle.std.proofs.Common.{◌∙◌, ap, sym, take}
 use Rattle.pdb_msf.specs.StreamBlocks.{said_in}
 use Rattle.pdb_tpi.proofs.HeaderLemmas.{header_read}
 use Rattle.pdb_tpi.proofs.SaidLemmas.{of_said, where_said}
-use Rattle.pdb_tpi.specs.Header.{header_of}
+use Rattle.pdb_tpi.specs.TypeStreamHeader.{header_of}
 use Rattle.pdb_tpi.proofs.type_places.read_front.Goals as goal
 
 pub returns-clause-answer : goal.returns-clause-answer

@@ -2,7 +2,7 @@
 use Rattle.std.proofs.Common.{◌≡◌, ◌-◌, ◌∙◌, ap, sym, arith}
 use Rattle.std.proofs.lemmas.Result.{err_from_is_err_and}
 use Rattle.pe_unwind.proofs.ListLemmas.{fails_onward, one_parent_more, refused_parent, too_many_parents, unread_parents}
-use Rattle.pe_unwind.specs.Faults.{behind}
+use Rattle.pe_unwind.specs.UnwindErrors.{behind}
 use Rattle.pe_unwind.specs.UnwindInfo.{info_at, parents_of, parents_up_to}
 use Rattle.pe_unwind.proofs.unwind_info.parents_of.Goals as goal
 

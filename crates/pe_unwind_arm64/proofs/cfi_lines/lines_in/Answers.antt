@@ -1,4 +1,4 @@
--- One line more, and an instruction with the rules of the body behind one with them.
+-- One line more, and an instruction with the rules of the body after one with them.
 use Rattle.std.proofs.Common.{◌≡◌, ◌≤◌, ◌+◌, ◌*◌, ℕ, Some, refl, ap, sym, ◌∙◌, arith}
 use Rattle.pe_unwind_arm64.proofs.LineLemmas.{ascend_further, left_later, plain_rules, rule_in, rules_left, shows_four}
 use Rattle.pe_unwind_arm64.specs.Epilogues.{epilogues_left}

@@ -1,4 +1,4 @@
--- What holds of all codes holds of those that are left, behind those that were passed.
+-- What holds of all codes holds of those that are left, after those that were passed.
 use Rattle.std.proofs.Common.{◌≡◌, false, drop}
 use Rattle.pe_unwind_arm64.specs.Epilogues.{is_frame_lost}
 use Rattle.pe_unwind_arm64.proofs.epilogues.is_frame_lost.Given as goal

@@ -1,4 +1,4 @@
--- Whatever is written of the entries that are left, behind what was written so far, is what is written of all.
+-- Whatever is written of the entries that are left, after what was written so far, is what is written of all.
 use Rattle.std.proofs.Common.{drop}
 use Rattle.pe_unwind_arm64.specs.ProgramRecords.{AddsAll, Written}
 use Rattle.pe_unwind_arm64.proofs.program_records.add_entries.Given as goal

@@ -1,4 +1,4 @@
--- What all codes undo is what those that are left undo behind those that were passed.
+-- What all codes undo is what those that are left undo after those that were passed.
 use Rattle.std.proofs.Common.{◌≡◌, drop}
 use Rattle.pe_unwind_arm64.specs.Rules.{codes_undone}
 use Rattle.pe_unwind_arm64.proofs.rules.codes_undone.Given as goal

@@ -1,4 +1,4 @@
--- What the code says is what it says by the bytes that are left, behind the codes that were passed.
+-- What the code says is what it says by the bytes that are left, after the codes that were passed.
 use Rattle.std.proofs.Common.{◌≡◌, ◌≤◌, ◌+◌, ◌-◌}
 use Rattle.pe_unwind_arm64.specs.UnwindCodes.{next_operation, next_up_to}
 use Rattle.pe_unwind_arm64.proofs.unwind_codes.next_operation.Given as goal

@@ -1,6 +1,6 @@
 -- The epilogues are those that were read, and those of the scopes that are left.
 use Rattle.std.proofs.Common.{◌≡◌, ◌-◌}
-use Rattle.pe_unwind_arm64.specs.Faults.{behind}
+use Rattle.pe_unwind_arm64.specs.UnwindErrors.{behind}
 use Rattle.pe_unwind_arm64.specs.UnwindInfo.{scopes_in, scopes_up_to}
 use Rattle.pe_unwind_arm64.proofs.unwind_info.scopes_in.Given as goal
 

@@ -1,5 +1,5 @@
 use Rattle.std.proofs.Common.{[], ◌∷◌}
-use Rattle.pdb_addr2line.specs.Functions.{IsCutShort}
+use Rattle.pdb_addr2line.specs.FunctionIter.{IsCutShort}
 use Rattle.pdb_addr2line.proofs.FunctionLemmas.{on_error}
 use Rattle.pdb_addr2line.proofs.GainLemmas.{gains_none}
 use Rattle.pdb_addr2line.proofs.context.Context.add_function.Goals as goal

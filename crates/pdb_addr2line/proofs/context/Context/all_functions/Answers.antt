@@ -1,7 +1,7 @@
 use Rattle.std.proofs.Common.{◌∙◌, ◌<◌, [], ◌∷◌, ◌++◌, length, get_or, take, map, sym, ap, refl, arith}
 use Rattle.std.proofs.lemmas.List.{take_all}
 use Rattle.pdb_function_info.specs.Function.{function_view}
-use Rattle.pdb_addr2line.specs.Functions.{functions_at}
+use Rattle.pdb_addr2line.specs.FunctionIter.{functions_at}
 use Rattle.pdb_addr2line.proofs.FunctionLemmas.{inputs_stay, after_one_more, functions_one_more, cut_short_later}
 use Rattle.pdb_addr2line.proofs.FunctionLemmas.{on_error}
 use Rattle.pdb_addr2line.proofs.GainLemmas.{gains_none, gains_after}

@@ -1,6 +1,6 @@
 use Rattle.std.proofs.Common.{◌≡◌, map, take}
 use Rattle.pdb_function_info.specs.Function.{function_view}
-use Rattle.pdb_addr2line.specs.Functions.{functions_at, after_functions, OnlyGainsBroken}
+use Rattle.pdb_addr2line.specs.FunctionIter.{functions_at, after_functions, OnlyGainsBroken}
 use Rattle.pdb_addr2line.proofs.context.Context.all_functions.Given as goal
 
 -- the functions over the addresses so far are there, and the context answered them and gained only broken parts

@@ -16,14 +16,14 @@ parts_in_order : (failed : CodeParts) (part : CodePart)
     → add_part (order.ghosts).cmp failed part ≡ with_code_part failed part
 parts_in_order failed part = search rules
 
-pub returns-in_ok-ask-in-Some-clause-answer : goal.returns-in_ok-ask-in-Some-clause-answer
-returns-in_ok-ask-in-Some-clause-answer g c =
-    let asked = c.in_ok-ask-in-Some.ensures.answer
+pub returns-in_ok-fail-in-Some-clause-answer : goal.returns-in_ok-fail-in-Some-clause-answer
+returns-in_ok-fail-in-Some-clause-answer g c =
+    let asked = c.in_ok-fail-in-Some.ensures.answer
     ∙ error_in_order c.self.inside.code_failed c.in-Some.part c.in_ok-error.error in
     rw (← c.self.view_is, c.in-Some.is, ← c.in_ok-error.ensures.0) asked
 
-pub returns-in_ok-ask-in-Some-clause-state : goal.returns-in_ok-ask-in-Some-clause-state
-returns-in_ok-ask-in-Some-clause-state g c =
-    let added = c.in_ok-ask-in-Some.ensures.state
+pub returns-in_ok-fail-in-Some-clause-state : goal.returns-in_ok-fail-in-Some-clause-state
+returns-in_ok-fail-in-Some-clause-state g c =
+    let added = c.in_ok-fail-in-Some.ensures.state
     ∙ parts_in_order c.self.inside.code_failed c.in-Some.part in
     rw (← c.self.view_is, c.in-Some.is, added) refl

@@ -1,4 +1,4 @@
-use Rattle.pdb_functions.specs.FoundFunctions.{found_function}
+use Rattle.pdb_functions.specs.FunctionMatches.{function_match}
 use Rattle.pdb_addr2line.proofs.FoundLemmas.{over_goes_by_symbol}
 use Rattle.pdb_addr2line.proofs.context.Context.find_frames.Goals as goal
 
@@ -26,5 +26,5 @@ frames_answer-requires g c =
     record {
       named = rw c.found_over.ensures.unchanged
           (over_goes_by_symbol g.P.ModuleProvider.info c.args.self.now.inputs c.in-Some.section_offset
-          (found_function c.in-Some-2.found) found);
+          (function_match c.in-Some-2.found) found);
     }

@@ -1,4 +1,4 @@
-use Rattle.pdb_functions.specs.FoundFunctions.{found_function}
+use Rattle.pdb_functions.specs.FunctionMatches.{function_match}
 use Rattle.pdb_addr2line.proofs.FoundLemmas.{at_goes_by_symbol}
 use Rattle.pdb_addr2line.proofs.GainLemmas.{gains_by_one, gains_none, state_with_failed}
 use Rattle.pdb_addr2line.proofs.context.Context.find_function.Goals as goal
@@ -41,5 +41,5 @@ function_info-requires g c =
     record {
       named = rw c.found.ensures.unchanged
           (at_goes_by_symbol g.P.ModuleProvider.info c.args.self.now.inputs c.args.address
-          (found_function c.in-Some.found) found);
+          (function_match c.in-Some.found) found);
     }

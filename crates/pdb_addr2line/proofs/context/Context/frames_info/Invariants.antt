@@ -1,4 +1,4 @@
-use Rattle.pdb_functions.specs.ModuleInfos.{readable_info}
+use Rattle.pdb_functions.specs.ModuleInfoCache.{readable_info}
 use Rattle.pdb_addr2line.proofs.context.Context.frames_info.Given as goal
 
 abbrev pub ghost-frames_info : goal.ghost-frames_info

@@ -1,4 +1,4 @@
--- One span more, behind all others.
+-- One span more, after all others.
 use Rattle.std.proofs.Common.{subst, sym}
 use Rattle.pdb_breakpad.specs.AddressSpans.{Ascend, EndBefore}
 use Rattle.pdb_breakpad.proofs.AddressSpanLemmas.{ascend_begun}

@@ -1,6 +1,6 @@
 -- A reader is shown the answer over the piece.
 use Rattle.std.proofs.Common.{◌∙◌, map, rules}
-use Rattle.pdb_breakpad.specs.FrameTexts.{frame_text}
+use Rattle.pdb_breakpad.specs.ShownNames.{frame_text}
 use Rattle.pdb_breakpad.specs.NumberedCode.{IsCode}
 use Rattle.pdb_breakpad.proofs.FunctionRecordLemmas.{reads_found, recorded}
 use Rattle.pdb_breakpad.proofs.OnOkLemmas.{both_on_ok}

@@ -1,6 +1,6 @@
 -- A reader is shown the answer over the one piece.
 use Rattle.std.proofs.Common.{◌∙◌, ap, map, subst}
-use Rattle.pdb_breakpad.specs.FrameTexts.{frame_text}
+use Rattle.pdb_breakpad.specs.ShownNames.{frame_text}
 use Rattle.pdb_breakpad.specs.NumberedCode.{IsCode}
 use Rattle.pdb_breakpad.proofs.FunctionRecordLemmas.{reads_found}
 use Rattle.pdb_breakpad.proofs.function_records.FunctionRecords.new.Goals as goal

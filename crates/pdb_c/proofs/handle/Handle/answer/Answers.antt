@@ -1,5 +1,5 @@
 use Rattle.std.proofs.Common.{Err}
-use Rattle.pdb_c.specs.declared.refusals.Refusal.TheVariants.{Closed}
+use Rattle.pdb_c.specs.declared.call_error.CallError.TheVariants.{Closed}
 use Rattle.pdb_c.specs.declared.found_frames.FoundFrames.{FoundFrames}
 use Rattle.pdb_c.proofs.FrameLemmas.{open_answers, closed_answers, closed_leaves}
 use Rattle.pdb_c.proofs.handle.Handle.answer.Goals as goal

@@ -47,19 +47,19 @@ use Rattle.std.proofs.raw_atomic.Walks.{proved_at, leaves}
 use Rattle.pdb_addr2line.specs.ContextInputs.{ContextState}
 use Rattle.pdb_records.specs.Records.{Records}
 use Rattle.pdb_c.specs.FoundFrames.{shown_view}
-use Rattle.pdb_c.specs.Texts.{Agrees}
+use Rattle.pdb_c.specs.ReportTexts.{Agrees}
 use Rattle.pdb_c.specs.Questions.{AnswersHeld, LeavesHeld, IsLeftBy}
 use Rattle.pdb_c.specs.Questions as questions
 use Rattle.pdb_c.specs.Handles.{HeldContext}
 use Rattle.pdb_c.specs.contracts.found_frames.FoundFrames.{the_row as Found}
 use Rattle.pdb_c.proofs.found_frames.FoundFrames.TheLaws as found_laws
-use Rattle.pdb_c.specs.contracts.refusals.Refusal.{the_row as Refusal}
-use Rattle.pdb_c.proofs.refusals.Refusal.TheLaws as refusal_laws
+use Rattle.pdb_c.specs.contracts.call_error.CallError.{the_row as CallError}
+use Rattle.pdb_c.proofs.call_error.CallError.TheLaws as refusal_laws
 use Rattle.pdb_c.specs.contracts.found_frames.Question.{the_row as question_row}
 use Rattle.pdb_c.proofs.found_frames.Question.TheLaws as question_laws
 use Rattle.pdb_c.proofs.HandleValues.{Z, LZ, Handle, three, handle_in, handle_out, held_in, either_held}
-use Rattle.pdb_c.specs.contracts.frame_answers.answer_in as callee
-use Rattle.pdb_c.proofs.frame_answers.answer_in.Met.{met}
+use Rattle.pdb_c.specs.contracts.answer_buffers.answer_in as callee
+use Rattle.pdb_c.proofs.answer_buffers.answer_in.Met.{met}
 use Rattle.pdb_c.specs.contracts.handle.Handle.ask.{ended, clauses}
 use Rattle.pdb_c.specs.contracts.handle.Handle.ask.Key.{name as #self}
 use Rattle.pdb_c.proofs.handle.Handle.ask.Statement.{statement}
@@ -83,7 +83,7 @@ Reply = type_at callee.signature.result ([], ([], ([], tt)))
 abbrev reply_al : Al
 reply_al = record {
   row = Reply;
-  laws = result_laws Found Refusal found_laws.the_row_laws refusal_laws.the_row_laws;
+  laws = result_laws Found CallError found_laws.the_row_laws refusal_laws.the_row_laws;
   g = record { dealloc_token = λ a σ p. ftrue };
   d = impl [] tnil dnil;
   drops = impl [] tnil dnil;
@@ -206,7 +206,7 @@ ask_spec 𝓤 𝓛 𝓜 𝓡 wired =
     move ! (12 ∷ []) $ nothing ! $ move ! (1 ∷ 0 ∷ []) $ fjoin ! $ move ! (3 ∷ 0 ∷ []) $ fjoin ! $
     move ! (11 ∷ 0 ∷ []) $ fjoin ! $ move ! (1 ∷ 0 ∷ []) $ join ! $ nothing ! $ move ! (1 ∷ 0 ∷ []) $ join ! $
     use1 𝓛 (raw (k.pre y)) (id⊢ 𝓤 _) $
-    calls_at ! (fm 𝓛 𝓜 𝓡) k (met 𝓤 𝓛 𝓜 𝓡 (code.calls-pdb_c::frame_answers::answer_in 𝓡.env wired)) y
+    calls_at ! (fm 𝓛 𝓜 𝓡) k (met 𝓤 𝓛 𝓜 𝓡 (code.calls-pdb_c::answer_buffers::answer_in 𝓡.env wired)) y
     (and_then ! (get ! refl) (and_then ! (get ! refl) (and_then ! (get ! refl) (no_more !)))) (λ u.
     let Told : Reply.Denot → Type 0 = λ r. Agrees shown_view r (questions.answer_in x question) in
     let Left : Reply.Denot → ContextState Records → Type 0 = λ r x'. IsLeftBy r x question x' in

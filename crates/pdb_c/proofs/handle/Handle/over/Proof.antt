@@ -36,16 +36,16 @@ use Rattle.core.proofs.atomic.Steps.{fm}
 use Rattle.core.proofs.cell.Inside.{Good}
 use Rattle.core.proofs.result.Made.{Ok-of, Err-of}
 use Rattle.std.specs.Prelude.{◌≢◌, Some, Ok, Err}
-use Rattle.pdb_c.specs.declared.refusals.Refusal.TheVariants.{OutOfMemory}
+use Rattle.pdb_c.specs.declared.call_error.CallError.TheVariants.{OutOfMemory}
 use Rattle.std.specs.contracts.impls.GlobalAllocator.TheImpl.{ghosts}
 use Rattle.std_alloc.proofs.ResultValues.{and_tt}
 use Rattle.std.proofs.raw_atomic.Walks.{proved_at, leaves}
 use Rattle.pdb_addr2line.proofs.context_data.ContextPdbData.TheLaws as records_laws
-use Rattle.pdb_c.specs.Texts.{Agrees}
+use Rattle.pdb_c.specs.ReportTexts.{Agrees}
 use Rattle.pdb_c.specs.Openings.{context_over, held_by}
 use Rattle.pdb_c.specs.Handles.{HeldRecords, HeldContext}
-use Rattle.pdb_c.specs.contracts.refusals.Refusal.{the_row as Refusal}
-use Rattle.pdb_c.proofs.refusals.Refusal.TheLaws as refusal_laws
+use Rattle.pdb_c.specs.contracts.call_error.CallError.{the_row as CallError}
+use Rattle.pdb_c.proofs.call_error.CallError.TheLaws as refusal_laws
 use Rattle.pdb_c.proofs.LooseValues.{both, loose_good, loose_in, loose_out}
 use Rattle.pdb_c.proofs.HandleValues.{Z, LZ, Handle, LooseAt, three, handle_good, handle_in, held_in, again}
 use Rattle.pdb_c.proofs.HandleValues.{either_result}
@@ -60,7 +60,7 @@ use Rattle.pdb_c.proofs.handle.Handle.over.Code as code
 
 abbrev refusal_al : Al
 refusal_al = record {
-  row = Refusal;
+  row = CallError;
   laws = refusal_laws.the_row_laws;
   g = record { dealloc_token = λ a σ p. ftrue };
   d = impl [] tnil dnil;
@@ -125,7 +125,7 @@ over_spec 𝓤 𝓛 𝓜 𝓡 wired =
     (id⊢ 𝓤 (k.post y u)) $ await ! tt $ pick ! (λ r. split ! $ move ! (1 ∷ []) $ pick ! (λ _. split ! $ drop ! $
     heard ! (Told r) (λ told. split ! $ split ! $ move ! (2 ∷ []) $
     -- [the result; the token; nothing; the allocator; the records lent]
-    either_result (LooseAt (HeldContext α)) Refusal ! r u
+    either_result (LooseAt (HeldContext α)) CallError ! r u
     (λ context vs answered says. loose_out (HeldContext α) Z LZ ghosts ! context vs (λ b' o' h' e' us fits'.
     let v : Val = both (vptr b' o') h' in let typed' = loose_good (HeldContext α) Z LZ ghosts b' o' h' fits' in
     let handle : Handle.Denot =
@@ -151,7 +151,7 @@ over_spec 𝓤 𝓛 𝓜 𝓡 wired =
     -- [the context; its allocator; the token; nothing; the allocator; the records lent]
     move ! (0 ∷ 2 ∷ 5 ∷ []) $ held_in ! a (block_ptr b o) (block_ptr b' o') context.value α x $
     handle_in ! (block_ptr b o) (block_ptr b' o') h' a (Some context.value) $
-    use1 𝓛 (‵ (Out.own_val (Ok handle) (v₁ ∷ []))) (Ok-of 𝓛 Handle Refusal handle w₁) $
+    use1 𝓛 (‵ (Out.own_val (Ok handle) (v₁ ∷ []))) (Ok-of 𝓛 Handle CallError handle w₁) $
     use0 𝓛 (raw (fact 𝓤 (held_by (context_over x) ≡ Ok (Some context.value))))
     (fact_i 𝓤 _ (emp 𝓤) (ap held_by is_made)) $ nothing ! $ nothing ! $ fjoin ! $
     returns ! (look_at ! 0 refl) $ free_all ! refl $ keep ! (3 ∷ 0 ∷ 2 ∷ 1 ∷ []) $
@@ -175,7 +175,7 @@ over_spec 𝓤 𝓛 𝓜 𝓡 wired =
     nothing ! $ move ! (1 ∷ 0 ∷ []) $ join ! $ use1 𝓛 (raw (k₁.pre y₁)) (id⊢ 𝓤 _) $
     calls_at ! (fm 𝓛 𝓜 𝓡) k₁ (refused_met.met 𝓤 𝓛 𝓜 𝓡 (code.calls-pdb_c::contexts::refuse 𝓡.env wired)) y₁
     (and_then ! (get ! refl) (and_then ! (get ! refl) (no_more !))) (λ u₁.
-    use1 𝓛 (later (some (λ (r₁ : Refusal.Denot). (‵ ftrue ⊛ ‵ (Refusal.own_val r₁ (u₁ ∷ []))) ⊛ some
+    use1 𝓛 (later (some (λ (r₁ : CallError.Denot). (‵ ftrue ⊛ ‵ (CallError.own_val r₁ (u₁ ∷ []))) ⊛ some
     (λ (ls : Lasts refused.ended tt y₁.0.3). ‵ (lasts refused.ended tt y₁.0.3 ls) ⊛ raw (fact 𝓤 (r₁ ≡ refusal))))))
     (id⊢ 𝓤 (k₁.post y₁ u₁)) $ await ! tt $ pick ! (λ r₁. split ! $ move ! (1 ∷ []) $ pick ! (λ _. split ! $ drop ! $
     heard ! (r₁ ≡ refusal) (λ same. split ! $ move ! (1 ∷ []) $
@@ -185,7 +185,7 @@ over_spec 𝓤 𝓛 𝓜 𝓡 wired =
     lands_as ! (ap only us₁) refl good₁ $
     sets_last ! (agg ! (and_then ! (lit ! tt) (and_then ! (get ! refl) (no_more !)))) refl fine $
     exec ! 𝓣.C 𝓣.Λ Ev (after 7 fn.body) (at_ret Ev Post) $ sets ! (of_opd ! (get ! refl)) refl fine $
-    use1 𝓛 (‵ (Out.own_val (Err r₁) (w₁ ∷ []))) (Err-of 𝓛 Handle Refusal r₁ v₁) $
+    use1 𝓛 (‵ (Out.own_val (Err r₁) (w₁ ∷ []))) (Err-of 𝓛 Handle CallError r₁ v₁) $
     use0 𝓛 (raw (fact 𝓤 (r₁ ≢ OutOfMemory → held_by (context_over x) ≡ Err r₁)))
     (fact_i 𝓤 _ (emp 𝓤) (λ other. subst (λ q. held_by (context_over x) ≡ Err q) (sym same)
     (ap held_by (subst Told failed told (subst (λ q. q ≢ OutOfMemory) same other))))) $ nothing ! $ nothing ! $

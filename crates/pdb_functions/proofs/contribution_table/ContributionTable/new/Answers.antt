@@ -13,5 +13,5 @@ invariant_of-result c =
           rw c.deref.ensures.value at (c.in_ok-segments.ensures.answer section_offset fits)
           ∙ ap (λ spans. last_over (contribution_covers section_offset) None spans) (sym (reverse-reverse last_first))
           ∙ last_over-reverse (contribution_covers section_offset) (reverse last_first);
-      at_most_two_each = rw (← c.deref.ensures.value) c.in_ok-segments.ensures.few;
+      at_most_two_each = rw (← c.deref.ensures.value) c.in_ok-segments.ensures.bound;
     }

@@ -1,6 +1,6 @@
 use Rattle.std.proofs.Common.{◌∙◌, ap}
 use Rattle.pdb_records.specs.Addresses.{is_same_section_offset}
-use Rattle.pdb_functions.specs.FoundFunctions.{where_passes}
+use Rattle.pdb_functions.specs.FunctionMatches.{where_passes}
 use Rattle.pdb_functions.proofs.NeighbourLemmas.{at_from_last}
 use Rattle.pdb_functions.proofs.global_function_table.GlobalFunctionTable.function_at.Goals as goal
 

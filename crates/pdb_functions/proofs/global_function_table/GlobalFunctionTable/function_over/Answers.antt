@@ -1,6 +1,6 @@
 use Rattle.std.proofs.Common.{◌∙◌, ap}
 use Rattle.std.specs.Prelude.{◌==◌}
-use Rattle.pdb_functions.specs.FoundFunctions.{where_passes}
+use Rattle.pdb_functions.specs.FunctionMatches.{where_passes}
 use Rattle.pdb_functions.proofs.NeighbourLemmas.{over_from_last}
 use Rattle.pdb_functions.proofs.global_function_table.GlobalFunctionTable.function_over.Goals as goal
 

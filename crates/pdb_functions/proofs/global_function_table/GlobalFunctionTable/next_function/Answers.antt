@@ -1,7 +1,7 @@
 use Rattle.std.proofs.Common.{◌≡◌, ◌∙◌, ap}
 use Rattle.std.specs.Prelude.{◌==◌, find, option_map}
 use Rattle.pdb_tables.proofs.KeyedLemmas.{map-KeysAscend}
-use Rattle.pdb_functions.specs.FoundFunctions.{where_passes}
+use Rattle.pdb_functions.specs.FunctionMatches.{where_passes}
 use Rattle.pdb_functions.specs.GlobalFunctions.{global_function}
 use Rattle.pdb_functions.specs.Starts.{is_before, section_offset_cmp}
 use Rattle.pdb_functions.proofs.NeighbourLemmas.{behind_from_place, next_from_first}

@@ -7,5 +7,5 @@ invariant_of-result c = record {
       rw (rw c.deref.ensures.value at (c.in_ok-segments.ensures.answer section_offset fits))
       (last_procedure section_offset c.args.procedures.items c.requires);
   ascend = c.requires;
-  at_most_two_each = rw (← c.deref.ensures.value) c.in_ok-segments.ensures.few;
+  at_most_two_each = rw (← c.deref.ensures.value) c.in_ok-segments.ensures.bound;
 }

@@ -24,8 +24,8 @@ pub returns-clause-positions : goal.returns-clause-positions
 returns-clause-positions c = λ x.
     rw (c.in_ok-table.ensures.answer x, c.deref.ensures.value) (ap up_to_gap (c.in_ok-tables.ensures x))
 
-pub returns-clause-few : goal.returns-clause-few
-returns-clause-few c =
+pub returns-clause-bound : goal.returns-clause-bound
+returns-clause-bound c =
     let count : length c.deref-2.result.now ≡ 2 * length c.args.ranges.now =
     rw c.deref-2.ensures.value (length_permutation _ _ c.in_ok-bounds.ensures.all ∙ length-bounds c.args.ranges.now) in
-    omega (arith, count, c.in_ok-table.ensures.few)
+    omega (arith, count, c.in_ok-table.ensures.bound)

@@ -2,14 +2,14 @@
 use Rattle.std.proofs.Common.{◌≡◌, ◌∙◌, ℕ, List, length, Some, ap, subst, sym, arith}
 use Rattle.pdb_msf.proofs.KnownLemmas.{if_file}
 use Rattle.pdb_msf.specs.Msf.{stream_of}
-use Rattle.pdb_msf.specs.StreamMap.{with_bytes}
+use Rattle.pdb_msf.specs.MsfLayout.{with_bytes}
 use Rattle.pdb_tpi.proofs.SaidLemmas.{of_said}
 use Rattle.pdb_session.proofs.AddedStreamLemmas.{of_known}
 use Rattle.pdb_session.proofs.FrontStreamLemmas.{has_front}
 use Rattle.pdb_session.proofs.ListLemmas.{has_ids, has_no_ids, has_types, same_length}
 use Rattle.pdb_container.specs.Info.{features}
 use Rattle.pdb_container.specs.TypeRecords.{id_information}
-use Rattle.pdb_tpi.specs.Ids.{ids}
+use Rattle.pdb_tpi.specs.IdLeaves.{ids}
 use Rattle.pdb_session.specs.FileParts.{HasItems}
 use Rattle.pdb_session.specs.FrontStreams.{HasStreams}
 use Rattle.pdb_session.proofs.front_streams.FrontStreams.read.Goals as goal

@@ -1,18 +1,19 @@
 -- The search is written at the entry's place.
-use Rattle.std.proofs.Common.{◌≡◌, ◌∙◌, ap, inl, ◌<◌, ◌||◌, sym, subst, refl, List, ℕ, length, Some, arith}
+use Rattle.std.proofs.Common.{◌≡◌, ◌∙◌, ap, inl, ◌<◌, ◌||◌, sym, subst, refl, List, length, Some, arith}
 use Rattle.std.proofs.Math.ListN.{set}
-use Rattle.std.proofs.lemmas.Option.{slice_get_past, slice_get_read, slice_get_within}
+use Rattle.std.proofs.lemmas.Option.{slice_get_past, slice_get_read}
 use Rattle.std.proofs.lemmas.Bool.Decides.{nat_tests}
-use Rattle.std.specs.Prelude.{Option, string_bytes, unwrap_or, ◌≤◌}
+use Rattle.std.specs.Prelude.{Option, unwrap_or, ◌≤◌}
 use Rattle.pdb_symbolication.specs.Findings.{search_of}
-use Rattle.pdb_symbolication.specs.WantedModules.{KeepsNames, LeadToEntries, is_asked, is_entry, names_in}
+use Rattle.pdb_symbolication.specs.WantedModules.{Identity, KeepsIdentities, LeadToEntries, identities_in, identity_of}
+use Rattle.pdb_symbolication.specs.WantedModules.{is_asked, is_entry}
 use Rattle.pdb_symbolication.specs.declared.requests.FrameModule.{FrameModule}
 use Rattle.pdb_symbolication.specs.WantedModules.{LeadsTo, ServesSearch, offsets_in}
 use Rattle.pdb_symbolication.specs.declared.wanted_modules.Search.{Search}
 use Rattle.pdb_symbolication.specs.declared.wanted_modules.Search.TheVariants.{NotAsked, Module}
 use Rattle.pdb_symbolication.proofs.GainLemmas.{asks_set, either_way, still_led_set}
 use Rattle.pdb_symbolication.proofs.OffsetLemmas.{frame_past, frame_set, no_module, onwards, still_set}
-use Rattle.pdb_symbolication.proofs.NameLemmas.{always, asked_set, lead_set, lead_still}
+use Rattle.pdb_symbolication.proofs.NameLemmas.{always, asked_set, lead_set, lead_still, leads_within}
 use Rattle.pdb_symbolication.proofs.named_modules.Collector.add_frame.Goals as goal
 
 pub returns-in_default-search-clause-led : goal.returns-in_default-search-clause-led
@@ -23,9 +24,9 @@ returns-in_default-search-clause-led c =
     let got = rw c.deref.ensures.value at c.in-Some-Some.ensures.lookup in
     let here = slice_get_read entries (length entries) index entry refl got.3.0 got.1 in
     let within : index < length c.args.searches.now = omega (arith, got.3.0, c.requires.count) in
-    lead_set (names_in c.made_search.new.self) entries c.args.searches.now index entry
+    lead_set (identities_in c.made_search.new.self) entries c.args.searches.now index entry
     c.in_ok-search.search within here c.in_ok-search.ensures.led
-    (lead_still (names_in c.args.self.now) (names_in c.made_search.new.self) entries c.args.searches.now
+    (lead_still (identities_in c.args.self.now) (identities_in c.made_search.new.self) entries c.args.searches.now
     c.in_ok-search.ensures.kept c.requires.led)
 
 pub returns-in-Module-clause-led : goal.returns-in-Module-clause-led
@@ -36,20 +37,20 @@ returns-in-Module-clause-led c =
     let got = rw c.deref.ensures.value at c.in-Some-Some.ensures.lookup in
     let here = slice_get_read entries (length entries) index entry refl got.3.0 got.1 in
     let within : index < length c.args.searches.now = omega (arith, got.3.0, c.requires.count) in
-    let led = lead_set (names_in c.made_search.new.self) entries c.args.searches.now index entry
+    let led = lead_set (identities_in c.made_search.new.self) entries c.args.searches.now index entry
     c.in_ok-search.search within here c.in_ok-search.ensures.led
-    (lead_still (names_in c.args.self.now) (names_in c.made_search.new.self) entries c.args.searches.now
+    (lead_still (identities_in c.args.self.now) (identities_in c.made_search.new.self) entries c.args.searches.now
     c.in_ok-search.ensures.kept c.requires.led) in
     always c.add_offset.result
-    (subst (λ (names : List (List ℕ)).
-    LeadToEntries names entries (set c.args.searches.now index c.in_ok-search.search))
-    (sym c.add_offset.ensures.names) led)
+    (subst (λ (identities : List Identity).
+    LeadToEntries identities entries (set c.args.searches.now index c.in_ok-search.search))
+    (sym c.add_offset.ensures.identities) led)
 
 pub returns-in-Module-clause-kept : goal.returns-in-Module-clause-kept
 returns-in-Module-clause-kept c =
     always c.add_offset.result
-    (subst (λ (names : List (List ℕ)). KeepsNames (names_in c.args.self.now) names)
-    (sym c.add_offset.ensures.names) c.in_ok-search.ensures.kept)
+    (subst (λ (identities : List Identity). KeepsIdentities (identities_in c.args.self.now) identities)
+    (sym c.add_offset.ensures.identities) c.in_ok-search.ensures.kept)
 
 pub returns-in-Module-clause-asked : goal.returns-in-Module-clause-asked
 returns-in-Module-clause-asked c =
@@ -80,16 +81,16 @@ made_search-requires c =
     let seen = c.in-Some-Some.ensures'.lookup in
     let here = slice_get_read entries (length entries) index entry refl got.3.0 got.1 in
     let was = slice_get_read searches (length searches) index c.in-Some-Some.field-0-1.now refl seen.3.0 seen.1 in
-    subst (λ (search : Option Search). LeadsTo (names_in c.args.self.now) (string_bytes entry.name)
+    subst (λ (search : Option Search). LeadsTo (identities_in c.args.self.now) (identity_of entry)
     (unwrap_or search NotAsked)) was (c.requires.led index entry here)
 
 pub add_offset-requires : goal.add_offset-requires
 add_offset-requires c =
-    let names = names_in c.made_search.new.self in
-    let name = string_bytes c.in-Some-Some.entry.now.name in
+    let identities = identities_in c.made_search.new.self in
+    let wanted = identity_of c.in-Some-Some.entry.now in
     record {
-      known = slice_get_within names c.in-Module.position name
-          (subst (λ (search : Search). LeadsTo names name search) c.in-Module.is c.in_ok-search.ensures.led);
+      known = leads_within identities wanted c.in-Module.position
+          (subst (λ (search : Search). LeadsTo identities wanted search) c.in-Module.is c.in_ok-search.ensures.led);
     }
 
 pub returns-in-Module-clause-offsets_kept : goal.returns-in-Module-clause-offsets_kept

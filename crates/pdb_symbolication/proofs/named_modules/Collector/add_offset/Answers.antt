@@ -1,23 +1,24 @@
 -- The offsets of the module there are replaced by those with one more.
-use Rattle.std.proofs.Common.{◌≡◌, ◌∙◌, ap, sym, subst, refl, List, ℕ, [], string_bytes}
+use Rattle.std.proofs.Common.{◌≡◌, ◌∙◌, ap, sym, subst, refl, List, ℕ, []}
 use Rattle.std.proofs.Math.Seq.{map-set_same}
 use Rattle.std.proofs.lemmas.List.{map-set}
 use Rattle.std.proofs.lemmas.Option.{slice_get-map, slice_get_read}
 use Rattle.std.specs.Option.{option_map}
 use Rattle.std.specs.List.{slice_get}
 use Rattle.std.specs.Prelude.{Contains, unwrap_or}
-use Rattle.pdb_symbolication.specs.WantedModules.{GainsOnly, KeepsOffsets, offsets_in}
+use Rattle.pdb_symbolication.specs.WantedModules.{GainsOnly, KeepsOffsets, named_identity, offsets_in}
 use Rattle.pdb_symbolication.specs.declared.wanted_modules.NamedModule.{NamedModule}
 use Rattle.pdb_symbolication.proofs.GainLemmas.{set_gains}
+use Rattle.pdb_symbolication.proofs.NameLemmas.{same_identity}
 use Rattle.pdb_symbolication.proofs.OffsetLemmas.{onwards, set_has, set_more}
 use Rattle.pdb_symbolication.proofs.named_modules.Collector.add_offset.Goals as goal
 
-pub returns-in-Some-clause-names : goal.returns-in-Some-clause-names
-returns-in-Some-clause-names c =
-    map-set_same (λ (one : NamedModule). string_bytes one.name) c.args.self.now.modules.items c.args.position
-    c.add_offset.new.self c.in-Some.module.now
-    (ap string_bytes c.add_offset.ensures.name
-    ∙ ap (λ (one : NamedModule). string_bytes one.name) c.in-Some.ensures.value)
+pub returns-in-Some-clause-identities : goal.returns-in-Some-clause-identities
+returns-in-Some-clause-identities c =
+    map-set_same named_identity c.args.self.now.modules.items
+    c.args.position c.add_offset.new.self c.in-Some.module.now
+    (same_identity c.add_offset.new.self c.in-Some.module.now c.add_offset.ensures.name c.add_offset.ensures.debug_id
+    ∙ ap named_identity c.in-Some.ensures.value)
 
 pub returns-in-Some-clause-kept : goal.returns-in-Some-clause-kept
 returns-in-Some-clause-kept c =

@@ -18,7 +18,7 @@ loop-module-preserved c =
     let all : offsets_of c.push.new.self.items ++ others ≡ before ++ new ∷ others =
     grind (arith, common_steps) in
     record {
-      names = grind (arith, common_steps);
+      identities = grind (arith, common_steps);
       offsets = λ position offset has.
           subst (λ (offsets : List (List ℕ)). HasOffset offsets position offset) (sym all)
           (amid before old new others c.wanted.ensures.kept position offset

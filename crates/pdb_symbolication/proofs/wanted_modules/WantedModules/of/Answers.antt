@@ -1,12 +1,14 @@
 -- The jobs so far are still served, and so is the next.
-use Rattle.std.proofs.Common.{vec_len, ◌≡◌, ◌∙◌, ◌<◌, ◌≤◌, ◌∷◌, [], ℕ, List, Some, sym, subst, ap, length, arith, refl, Vec}
+use Rattle.std.proofs.Common.{vec_len, ◌≡◌, ◌∙◌, ◌<◌, ◌≤◌, ◌∷◌, [], ℕ, List, Some, sym, subst, ap, length, arith, refl}
+use Rattle.std.proofs.Common.{Vec}
 use Rattle.std.proofs.Common.{Global, Option}
 use Rattle.std.proofs.lemmas.Grind.{common_steps}
 use Rattle.std.proofs.lemmas.Option.{slice_get_read, slice_get_within}
 use Rattle.std.specs.List.{slice_get}
 use Rattle.std.specs.Option.{option_map_or}
 use Rattle.pdb_symbolication.specs.WantedModules.{AsksFor, GainsOnly, JobAsks, OneOfFirst}
-use Rattle.pdb_symbolication.specs.WantedModules.{LeadToEntries, ServesJob, names_in, offsets_in, offsets_of}
+use Rattle.pdb_symbolication.specs.WantedModules.{Identity, LeadToEntries, ServesJob, identities_in, offsets_in}
+use Rattle.pdb_symbolication.specs.WantedModules.{offsets_of}
 use Rattle.pdb_symbolication.specs.declared.requests.Job.{Job}
 use Rattle.pdb_symbolication.specs.declared.wanted_modules.Search.{Search}
 use Rattle.pdb_symbolication.proofs.NameLemmas.{lead_still}
@@ -24,8 +26,8 @@ loop-job-preserved c =
     let count = c.loop-job.job-index in
     let old = offsets_in c.loop-job.collector in
     let new = offsets_in c.add_job.new.self in
-    let old_names = names_in c.loop-job.collector in
-    let new_names = names_in c.add_job.new.self in
+    let old_identities = identities_in c.loop-job.collector in
+    let new_identities = identities_in c.add_job.new.self in
     let before = c.loop-job.searches in
     let one = c.in_ok-add_job.field-0 in
     let after = c.push.new.self.items in
@@ -53,17 +55,17 @@ loop-job-preserved c =
           (subst (λ (found : Option (Vec Search Global)). AsksFor c.job-item.result (searches_of found))
           last added.asked);
       led = and_next (λ (number : ℕ) (job : Job).
-          LeadToEntries old_names job.memory_map.items (searches_of (slice_get before.items number)))
+          LeadToEntries old_identities job.memory_map.items (searches_of (slice_get before.items number)))
           (λ (number : ℕ) (job : Job).
-          LeadToEntries new_names job.memory_map.items (searches_of (slice_get after number)))
+          LeadToEntries new_identities job.memory_map.items (searches_of (slice_get after number)))
           jobs count c.job-item.result next
           (λ number job less led. subst (λ (found : Option (Vec Search Global)).
-          LeadToEntries new_names job.memory_map.items (searches_of found)) (earlier number less)
-          (lead_still old_names new_names job.memory_map.items (searches_of (slice_get before.items number))
+          LeadToEntries new_identities job.memory_map.items (searches_of found)) (earlier number less)
+          (lead_still old_identities new_identities job.memory_map.items (searches_of (slice_get before.items number))
           added.kept led))
           so_far.led
           (subst (λ (found : Option (Vec Search Global)).
-          LeadToEntries new_names c.job-item.result.memory_map.items (searches_of found)) last added.led);
+          LeadToEntries new_identities c.job-item.result.memory_map.items (searches_of found)) last added.led);
       served = and_next (λ (number : ℕ) (job : Job). ServesJob old (searches_of (slice_get before.items number)) job)
           (λ (number : ℕ) (job : Job). ServesJob new (searches_of (slice_get after number)) job)
           jobs count c.job-item.result next
@@ -104,9 +106,9 @@ returns c =
         each = λ number job is.
             so_far.each number job (omega (arith, slice_get_within jobs number job is, all)) is;
         led = λ number job is.
-            subst (λ (names : List (List ℕ)). LeadToEntries names job.memory_map.items
+            subst (λ (identities : List Identity). LeadToEntries identities job.memory_map.items
             (option_map_or (λ searches. searches.items) (slice_get c.loop-job.searches.items number) []))
-            (sym c.in_ok-finish.ensures.names)
+            (sym c.in_ok-finish.ensures.identities)
             (so_far.led number job (omega (arith, slice_get_within jobs number job is, all)) is);
         served = λ number job is.
             more_job (offsets_in c.loop-job.collector) (offsets_of modules.items)

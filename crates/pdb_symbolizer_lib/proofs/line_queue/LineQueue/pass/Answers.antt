@@ -1,4 +1,4 @@
--- The lines behind the first, whether they are ready or are read now.
+-- The lines after the first, whether they are ready or are read now.
 use Rattle.std.proofs.Common.{◌≡◌, ◌+◌, ◌<◌, ◌≤◌, length, arith}
 use Rattle.std.proofs.lemmas.Result.{on_ok_weaker}
 use Rattle.std.specs.Io.Buffered.{reader_remaining}

@@ -4,7 +4,7 @@ use Rattle.std.proofs.lemmas.List.{length-map}
 use Rattle.pdb_msf.specs.StreamBlocks.{said_in}
 use Rattle.pdb_tpi.proofs.ItemLemmas.{items_made, one_item_more}
 use Rattle.pdb_tpi.proofs.SaidLemmas.{of_said, where_said}
-use Rattle.pdb_tpi.specs.Items.{item_of}
+use Rattle.pdb_tpi.specs.ItemStreams.{item_of}
 use Rattle.pdb_tpi.specs.RecordWindows.{records_in}
 use Rattle.pdb_tpi.specs.TypePlaces.{list_at}
 use Rattle.pdb_tpi.specs.TypeRecords.{first_record}

@@ -1,7 +1,7 @@
 -- The items are those that were made and those of the records that are left.
 use Rattle.std.proofs.Common.{◌≡◌, ◌++◌, ℕ, List, Some, drop}
 use Rattle.pdb_msf.specs.StreamBlocks.{said_in}
-use Rattle.pdb_tpi.specs.Items.{item_of, items_from}
+use Rattle.pdb_tpi.specs.ItemStreams.{item_of, items_from}
 use Rattle.pdb_tpi.specs.RecordWindows.{Shows, records_in}
 use Rattle.pdb_tpi.specs.TypePlaces.{LieIn, list_at}
 use Rattle.pdb_tpi.proofs.type_places.TypePlaces.all_items.Given as goal

@@ -4,7 +4,7 @@ use Rattle.std.specs.Option.{option_map_or}
 use Rattle.pdb_msf.specs.StreamBlocks.{said_in}
 use Rattle.pdb_tpi.proofs.SaidLemmas.{of_said, where_said}
 use Rattle.pdb_tpi.specs.TypeRecords.{TypeBytes}
-use Rattle.pdb_tpi.specs.Types.{is_definition}
+use Rattle.pdb_tpi.specs.TypeLeaves.{is_definition}
 use Rattle.pdb_tpi.proofs.type_places.TypePlaces.is_definition.Goals as goal
 
 pub returns-in-Some-clause-answer : goal.returns-in-Some-clause-answer

@@ -4,7 +4,7 @@ use Rattle.std.specs.Option.{option_map}
 use Rattle.pdb_msf.specs.StreamBlocks.{said_in}
 use Rattle.pdb_tpi.proofs.ItemLemmas.{item_made}
 use Rattle.pdb_tpi.proofs.SaidLemmas.{of_said, where_said}
-use Rattle.pdb_tpi.specs.Items.{item_of}
+use Rattle.pdb_tpi.specs.ItemStreams.{item_of}
 use Rattle.pdb_tpi.specs.TypeRecords.{TypeBytes}
 use Rattle.pdb_tpi.proofs.type_places.TypePlaces.item_at.Goals as goal
 

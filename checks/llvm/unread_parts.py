@@ -1,0 +1,117 @@
+#!/usr/bin/env python3
+"""Compares pdb_symbolizer and llvm-symbolizer of LLVM 22 over a PDB file of which a part can't be read.
+
+Usage: unread_parts.py PROGRAM EXE FIRST LAST
+
+EXE is a program with its PDB file beside it. For each of PARTS a copy of that is written with the part broken: types of an
+old version, no types, ids of an old version, public symbols in no stream or in one behind the last. Both are asked for each
+address from FIRST to LAST, relative to where the program is loaded. Each answer has to have as many frames as LLVM's, with
+the same files and lines. If LLVM's program crashes, the answers are compared with those that it has over the whole PDB file.
+The status is 1 if any differs, or if no line on standard error says what can't be read.
+"""
+import json
+import pathlib
+import shutil
+import struct
+import subprocess
+import sys
+import tempfile
+
+LLVM = "llvm-symbolizer-22"
+TYPES, DEBUG, IDS = 2, 3, 4
+
+
+class Container:
+    """A PDB file's bytes, and where its streams are."""
+
+    def __init__(self, data):
+        self.data = bytearray(data)
+        self.block, _, _, size, _, map_block = struct.unpack_from("<6I", data, 32)
+        blocks = struct.unpack_from(f"<{-(-size // self.block)}I", data, map_block * self.block)
+        self.directory = [block * self.block for block in blocks]
+        self.count = self.number(0)
+
+    def place(self, offset):
+        """Where the directory's byte at this offset is in the file."""
+        return self.directory[offset // self.block] + offset % self.block
+
+    def number(self, position):
+        """The directory's number at this position."""
+        return struct.unpack_from("<I", self.data, self.place(4 * position))[0]
+
+    def start(self, stream):
+        """Where the first byte of a stream is in the file."""
+        sizes = [self.number(1 + at) for at in range(self.count)]
+        before = sum(-(-size // self.block) for size in sizes[:stream] if size != 0xFFFFFFFF)
+        return self.number(1 + self.count + before) * self.block
+
+    def put(self, stream, offset, form, value):
+        """The file with a number in the first block of a stream."""
+        struct.pack_into(form, self.data, self.start(stream) + offset, value)
+        return bytes(self.data)
+
+    def resize(self, stream, size):
+        """The file with another size of its last stream but for those that have blocks after it: an empty one."""
+        place = self.place(4 * (1 + stream))
+        old = struct.unpack_from("<I", self.data, place)[0]
+        blocks = -(-old // self.block)
+        numbers = [self.number(1 + self.count + at) for at in range(self.all_blocks())]
+        before = sum(-(-self.number(1 + at) // self.block) for at in range(stream) if self.number(1 + at) != 0xFFFFFFFF)
+        struct.pack_into("<I", self.data, place, size)
+        for at, number in enumerate(numbers[:before] + numbers[before + blocks:]):
+            struct.pack_into("<I", self.data, self.place(4 * (1 + self.count + at)), number)
+        return bytes(self.data)
+
+    def all_blocks(self):
+        """How many blocks all streams have."""
+        sizes = [self.number(1 + at) for at in range(self.count)]
+        return sum(-(-size // self.block) for size in sizes if size != 0xFFFFFFFF)
+
+
+PARTS = {
+    "types of an old version": lambda file: file.put(TYPES, 0, "<I", 19990903),
+    "no types": lambda file: file.resize(TYPES, 0xFFFFFFFF),
+    "empty types": lambda file: file.resize(TYPES, 0),
+    "ids of an old version": lambda file: file.put(IDS, 0, "<I", 19990903),
+    "no public symbols": lambda file: file.put(DEBUG, 20, "<H", 0xFFFF),
+    "public symbols behind the last stream": lambda file: file.put(DEBUG, 20, "<H", 0xFFF0),
+}
+
+
+def places(text):
+    """For each answer the files and lines of its frames."""
+    return [[(frame["FileName"], frame["Line"]) for frame in json.loads(line).get("Symbol", [])]
+            for line in text.splitlines()]
+
+
+def ask(program, exe, addresses):
+    """What a program prints for addresses, and on standard error."""
+    run = subprocess.run([program, f"--obj={exe}", "--relative-address", "--output-style=JSON"], input="\n".join(addresses) + "\n",
+                         capture_output=True, text=True)
+    return places(run.stdout), run.stderr
+
+
+def main(words):
+    program, exe = words[0], pathlib.Path(words[1])
+    pdb = exe.with_suffix(".pdb")
+    addresses = [hex(address) for address in range(int(words[2], 0), int(words[3], 0) + 1)]
+    whole, _ = ask(LLVM, exe, addresses)
+    failed = 0
+    with tempfile.TemporaryDirectory() as folder:
+        for name, broken in PARTS.items():
+            copy = pathlib.Path(folder) / exe.name
+            shutil.copy(exe, copy)
+            copy.with_suffix(".pdb").write_bytes(broken(Container(pdb.read_bytes())))
+            theirs, _ = ask(LLVM, copy, addresses)
+            crashed = len(theirs) < len(addresses)
+            ours, error = ask(program, copy, addresses)
+            differ = [at for at, pair in enumerate(zip(ours, whole if crashed else theirs)) if pair[0] != pair[1]]
+            told = "left out" in error
+            failed += bool(differ) or not told or len(ours) != len(addresses)
+            print(f"{name}: {len(ours)} answers, {len(differ)} differ from LLVM's"
+                  f"{' over the whole file, since it crashes' if crashed else ''}; {error.strip() or 'nothing is said'}")
+    return 1 if failed else 0
+
+
+if __name__ == "__main__":
+    sys.exit(main(sys.argv[1:]))

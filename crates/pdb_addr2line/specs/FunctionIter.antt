@@ -1,0 +1,69 @@
+-- The functions of a program.
+use Rattle.std.specs.Prelude.{◌≡◌, ℕ, ◌+◌, List, [], ◌∷◌, ◌++◌, map, fold, take}
+use Rattle.std.specs.BTreeSet.{insert_key}
+use Rattle.std.specs.List.{filter_map}
+use Rattle.std.specs.Option.{option_map_or}
+use Rattle.std.specs.Ordering.{nat_cmp}
+use Rattle.pdb_records.specs.Addresses.{rva}
+use Rattle.pdb_records.specs.declared.addresses.AddressRange.{AddressRange}
+use Rattle.pdb_records.specs.declared.addresses.PdbInternalSectionOffset.{PdbInternalSectionOffset}
+use Rattle.pdb_records.specs.declared.debug_information.Module.{Module}
+use Rattle.pdb_records.specs.Provided.{ProviderInfos}
+use Rattle.pdb_functions.specs.Procedures.{ModuleProcedure, provided_procedures}
+use Rattle.pdb_function_info.specs.Function.{FunctionInfo}
+use Rattle.pdb_addr2line.specs.Lookups.{function_at, failed_after}
+use Rattle.pdb_function_info.specs.NameTexts.{GainsBrokenParts}
+use Rattle.pdb_addr2line.specs.ContextInputs.{ContextInputs, ContextState, global_functions_of}
+
+-- the procedures of modules whose module indices are counted from here on, module by module
+abbrev pub procedures_of_modules : ProviderInfos → ℕ → List Module → List ModuleProcedure
+procedures_of_modules infos module_index [] = []
+procedures_of_modules infos module_index (m ∷ ms) =
+    provided_procedures (infos module_index m) ++ procedures_of_modules infos (module_index + 1) ms
+
+-- the section offsets where functions start: of the global functions, and then of the procedures of all modules
+abbrev pub start_section_offsets : {P : Type 0} → (P → ProviderInfos) → ContextInputs P → List PdbInternalSectionOffset
+start_section_offsets info s =
+    map (λ f. f.start) (global_functions_of s)
+    ++ map (λ p. p.offset) (procedures_of_modules (info s.provider) 0 s.type_inputs.modules)
+
+-- addresses in order, and among them that of a section offset, where it has one
+abbrev pub with_start : List AddressRange → List ℕ → PdbInternalSectionOffset → List ℕ
+with_start sections starts section_offset =
+    option_map_or (λ address. insert_key nat_cmp starts address.0) (rva sections section_offset) starts
+
+-- the same, with those of many section offsets
+abbrev pub with_starts : List AddressRange → List ℕ → List PdbInternalSectionOffset → List ℕ
+with_starts sections starts section_offsets = fold (with_start sections) starts section_offsets
+
+-- the addresses where functions start, ascending and each once
+abbrev pub start_addresses : {P : Type 0} → (P → ProviderInfos) → ContextInputs P → List ℕ
+start_addresses info s = with_starts s.address_map [] (start_section_offsets info s)
+
+-- the functions over these addresses, where there are any
+abbrev pub functions_at : {P : Type 0} → (P → ProviderInfos) → ContextInputs P → List ℕ → List FunctionInfo
+functions_at info s addresses = filter_map (function_at info s) addresses
+
+-- the functions of a program: those over the addresses where functions start
+abbrev pub functions_of : {P : Type 0} → (P → ProviderInfos) → ContextInputs P → List FunctionInfo
+functions_of info s = functions_at info s (start_addresses info s)
+
+-- a context once it answered the function over an address
+abbrev pub after_function : {P : Type 0} → (P → ProviderInfos) → ContextState P → ℕ → ContextState P
+after_function info c address = record c { failed = failed_after info c.inputs address c.failed }
+
+-- a context once it answered the functions over these addresses, one after the other
+abbrev pub after_functions : {P : Type 0} → (P → ProviderInfos) → ContextState P → List ℕ → ContextState P
+after_functions info c addresses = fold (after_function info) c addresses
+
+-- a context has the same inputs, and of further parts of the records it remembers only broken ones, and none of code
+pub record OnlyGainsBroken {P : Type 0} (info : P → ProviderInfos) (before after : ContextState P) : Type 0 where
+  pub inputs : after.inputs ≡ before.inputs
+  pub broken : GainsBrokenParts info before.inputs.type_inputs before.failed after.failed
+  pub code_failed : after.code_failed ≡ before.code_failed
+
+-- a context that answered the functions over the first of these addresses, and then had no memory to answer another
+pub record IsCutShort {P : Type 0} (info : P → ProviderInfos) (before after : ContextState P) (addresses : List ℕ)
+    : Type 0 where
+  pub done : ℕ
+  pub interrupted : OnlyGainsBroken info (after_functions info before (take done addresses)) after

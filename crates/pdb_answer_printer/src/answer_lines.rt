@@ -1,0 +1,146 @@
+//! The lines of an answer in the styles of LLVM and GNU.
+
+ghost use Rattle.std.specs.Prelude.{◌≡◌, ◌++◌, [], map, string_bytes, OnOk};
+ghost use Rattle.pdb_answer_printer.specs.AnswerLines.{address_line, answer_end, frame_lines, frames_lines};
+ghost use Rattle.pdb_answer_printer.specs.AnswerLines.{location, name_line, outer_start, unknown_frame, unknown_lines};
+ghost use Rattle.pdb_answer_printer.specs.InputLine.{target_of};
+
+use crate::frame_names::{file_of, function_of, line_of};
+use crate::input_line::{InputLine, InputTarget, Sort};
+use crate::printer_options::{Detail, NameStyle, PrinterOptions, Style};
+use crate::source_texts::{first_source, later_sources};
+use pdb_frames::Frame;
+use std::alloc::AllocError;
+
+// What is printed of a name that isn't known.
+const UNKNOWN: &str = "??";
+
+/// Appends the address before its answer, where the options ask for that.
+pub(crate) fn write_address(
+    out: &mut String,
+    options: &PrinterOptions,
+    request: &InputLine<'_>,
+) -> Result<(), AllocError>
+    ensures { OnOk result (string_bytes out.new
+        ≡ string_bytes out.old ++ address_line options.now (target_of request.now.place)) }
+{
+    match request.place {
+        InputTarget::Address(given) if options.address_shown => {
+            let end = if options.pretty { ": " } else { "\n" };
+            write!(out, "0x{given:x}{end}")
+        }
+        _ => Ok(()),
+    }
+}
+
+/// Appends what follows an answer.
+pub(crate) fn end_answer(out: &mut String, options: &PrinterOptions) -> Result<(), AllocError>
+    ensures { OnOk result (string_bytes out.new ≡ string_bytes out.old ++ answer_end options.now.style) }
+{
+    match options.style {
+        Style::Llvm => out.push_str("\n"),
+        _ => Ok(()),
+    }
+}
+
+/// Appends what is printed where nothing is known.
+pub(crate) fn write_unknown_lines(
+    out: &mut String,
+    options: &PrinterOptions,
+    request: &InputLine<'_>,
+) -> Result<(), AllocError>
+    ensures { OnOk result (string_bytes out.new
+        ≡ string_bytes out.old ++ unknown_lines options.now request.now.sort (target_of request.now.place)) }
+{
+    match (request.place, request.sort) {
+        (InputTarget::Nowhere(_), _) | (_, Sort::Code) => write_unknown_frame(out, options),
+        (_, Sort::Data) => write!(out, "{UNKNOWN}\n0 0\n{UNKNOWN}:?\n"),
+        (_, Sort::Frame) => write!(out, "{UNKNOWN}\n"),
+    }
+}
+
+fn write_unknown_frame(out: &mut String, options: &PrinterOptions) -> Result<(), AllocError>
+    ensures { OnOk result (string_bytes out.new ≡ string_bytes out.old ++ unknown_frame options.now) }
+{
+    write_name(out, options, "", UNKNOWN)?;
+    write_location(out, options, UNKNOWN, 0)
+}
+
+/// Appends frames from inside to outside, each with the lines of its source file.
+pub(crate) fn write_frames(
+    out: &mut String,
+    options: &PrinterOptions,
+    frames: &[Frame<'_>],
+    sources: &[String],
+) -> Result<(), AllocError>
+    ensures { OnOk result (string_bytes out.new
+        ≡ string_bytes out.old ++ frames_lines options.now [] frames.now (map string_bytes sources.now)) }
+{
+    let mut start = "";
+    let mut later = sources;
+    for frame in frames {
+        write_frame(out, options, start, frame)?;
+        out.push_str(first_source(later))?;
+        start = outer_start(options);
+        later = later_sources(later);
+    }
+    Ok(())
+}
+
+// What stands before the name of each frame but the innermost.
+fn outer_start(options: &PrinterOptions) -> &'static str
+    ensures { result.now ≡ outer_start options.now }
+{
+    if options.pretty { " (inlined by) " } else { "" }
+}
+
+// Appends the lines of a frame, after a text that says what it is.
+fn write_frame(
+    out: &mut String,
+    options: &PrinterOptions,
+    start: &str,
+    frame: &Frame<'_>,
+) -> Result<(), AllocError>
+    ensures { OnOk result (string_bytes out.new
+        ≡ string_bytes out.old ++ frame_lines options.now start.now frame.now) }
+{
+    write_name(out, options, start, function_of(frame, UNKNOWN))?;
+    write_location(
+        out,
+        options,
+        file_of(options, frame, UNKNOWN),
+        line_of(frame),
+    )
+}
+
+fn write_name(
+    out: &mut String,
+    options: &PrinterOptions,
+    start: &str,
+    name: &str,
+) -> Result<(), AllocError>
+    ensures { OnOk result (string_bytes out.new
+        ≡ string_bytes out.old ++ name_line options.now start.now name.now) }
+{
+    if options.names == NameStyle::None {
+        return Ok(());
+    }
+    let end = if options.pretty { " at " } else { "\n" };
+    write!(out, "{start}{name}{end}")
+}
+
+fn write_location(
+    out: &mut String,
+    options: &PrinterOptions,
+    file: &str,
+    line: u32,
+) -> Result<(), AllocError>
+    ensures { OnOk result (string_bytes out.new
+        ≡ string_bytes out.old ++ location options.now file.now line) }
+{
+    match (options.detail, options.style) {
+        (Detail::Verbose, _) => { write!(out, "  Filename: {file}\n  Line: {line}\n  Column: 0\n") }
+        (Detail::Brief, Style::Gnu) => write!(out, "{file}:{line}\n"),
+        (Detail::Brief, _) => write!(out, "{file}:{line}:0\n"),
+    }
+}

@@ -1,0 +1,54 @@
+//! Why a symbol file could not be written: no answer, no memory, a writer that refused.
+
+use pdb_addr2line::Error;
+use pdb_session::QuestionError;
+use std::alloc::AllocError;
+use std::io;
+
+/// Why a symbol file could not be written.
+#[derive(Debug, Drop, thiserror::Error)]
+pub enum SymbolFileError {
+    /// The source of the frames refused an answer, or there was no memory.
+    #[error("{0}")]
+    Refused(Error),
+    /// Something that an answer depends on was not read of the file.
+    #[error("not all of the file was read")]
+    NotRead,
+    /// The writer refused what was written.
+    #[error("cannot write")]
+    CannotWrite,
+    /// Nobody reads what is written any more.
+    #[error("nobody reads")]
+    ClosedPipe,
+}
+
+impl From<Error> for SymbolFileError {
+    fn from(error: Error) -> SymbolFileError {
+        SymbolFileError::Refused(error)
+    }
+}
+
+impl From<QuestionError> for SymbolFileError {
+    fn from(fault: QuestionError) -> SymbolFileError {
+        match fault {
+            QuestionError::NotRead => SymbolFileError::NotRead,
+            QuestionError::Records(error) => SymbolFileError::Refused(error),
+        }
+    }
+}
+
+impl From<AllocError> for SymbolFileError {
+    fn from(_error: AllocError) -> SymbolFileError {
+        SymbolFileError::Refused(Error::OutOfMemory)
+    }
+}
+
+impl From<io::Error> for SymbolFileError {
+    fn from(error: io::Error) -> SymbolFileError {
+        match error.kind() {
+            io::ErrorKind::OutOfMemory => SymbolFileError::Refused(Error::OutOfMemory),
+            io::ErrorKind::BrokenPipe => SymbolFileError::ClosedPipe,
+            _ => SymbolFileError::CannotWrite,
+        }
+    }
+}

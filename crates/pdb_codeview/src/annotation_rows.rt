@@ -1,0 +1,171 @@
+//! The rows of an inline site, made of its annotations one after the other.
+
+ghost use Rattle.std.specs.Prelude.{◌≡◌, IfErr, IfOk, None};
+ghost use Rattle.pdb_codeview.specs.AnnotationRows.{closed, leaves_code, lengthened, position_after, moved_line, new_row};
+ghost use Rattle.pdb_codeview.specs.AnnotationRows.{own_length, rows_from, starts_row, with_length};
+
+use crate::annotations::Annotation;
+use pdb_msf::faults::Fault;
+use pdb_records::{FileIndex, InlineRow};
+use std::alloc::Global;
+
+/// Where reading the annotations of a site stands: in the code, and in the source.
+#[derive(Clone, Copy)]
+pub struct RowPosition {
+    /// Where the code starts that is read, a function or a chunk of one, in bytes from its section's start.
+    pub start: u32,
+    /// Where the code goes on, in bytes from the section's start.
+    pub offset: u32,
+    /// Where the file stands among the files of the module, in bytes.
+    pub file: u32,
+    pub line: u32,
+}
+
+/// The rows of these annotations. Their files are named as the annotations name them.
+pub fn rows_of(
+    alloc: Global,
+    annotations: &[Annotation],
+    start: RowPosition,
+) -> Result<Vec<InlineRow>, Fault>
+    ensures answer { IfOk result (λ rows. rows.items ≡ rows_from start None annotations.now) }
+    ensures memory { IfErr result (λ fault. fault ≡ Fault.OutOfMemory) }
+{
+    let mut rows = Vec::new(alloc);
+    let mut position = start;
+    let mut last: Option<InlineRow> = None;
+    for &annotation in annotations {
+        position = position_after(annotation, position);
+        if starts_row(annotation) {
+            if let Some(row) = last {
+                rows.push(closed(position.offset, row))?;
+            }
+            last = Some(new_row(annotation, position));
+        } else if leaves_code(annotation) {
+            if let Some(row) = last {
+                rows.push(row)?;
+            }
+            last = None;
+        } else {
+            last = lengthened(annotation, last);
+        }
+    }
+    if let Some(row) = last {
+        rows.push(row)?;
+    }
+    Ok(rows)
+}
+
+// Where reading stands after an annotation.
+fn position_after(annotation: Annotation, position: RowPosition) -> RowPosition
+    ensures { result ≡ position_after annotation position }
+{
+    match annotation {
+        Annotation::Start(count) => RowPosition {
+            offset: position.start.wrapping_add(count),
+            ..position
+        },
+        Annotation::Advance(count) | Annotation::Length(count) => RowPosition {
+            offset: position.offset.wrapping_add(count),
+            ..position
+        },
+        Annotation::File(file) => RowPosition { file, ..position },
+        Annotation::Line(change) => RowPosition {
+            line: moved_line(position.line, change),
+            ..position
+        },
+        Annotation::AdvanceAndLine(count, change) => RowPosition {
+            offset: position.offset.wrapping_add(count),
+            line: moved_line(position.line, change),
+            ..position
+        },
+        Annotation::LengthAndAdvance(_, count) => RowPosition {
+            offset: position.offset.wrapping_add(count),
+            ..position
+        },
+        Annotation::Chunk(start) => RowPosition {
+            start,
+            offset: start,
+            ..position
+        },
+        Annotation::Other => position,
+    }
+}
+
+// The line that a change leads to.
+fn moved_line(line: u32, change: u32) -> u32
+    ensures { result ≡ moved_line line change }
+{
+    if change % 2 == 0 {
+        line.wrapping_add(change / 2)
+    } else {
+        line.wrapping_sub(change / 2)
+    }
+}
+
+// Whether a row starts at this annotation.
+fn starts_row(annotation: Annotation) -> bool
+    ensures { result ≡ starts_row annotation }
+{
+    matches!(
+        annotation,
+        Annotation::Advance(_)
+            | Annotation::AdvanceAndLine(_, _)
+            | Annotation::LengthAndAdvance(_, _)
+    )
+}
+
+// Whether the code goes on elsewhere, so that no row reaches over this annotation.
+fn leaves_code(annotation: Annotation) -> bool
+    ensures { result ≡ leaves_code annotation }
+{
+    matches!(annotation, Annotation::Chunk(_))
+}
+
+// The length that the annotation which starts a row says of it.
+fn own_length(annotation: Annotation) -> Option<u32>
+    ensures { result ≡ own_length annotation }
+{
+    match annotation {
+        Annotation::LengthAndAdvance(length, _) => Some(length),
+        _ => None,
+    }
+}
+
+// The row that starts at an annotation.
+fn new_row(annotation: Annotation, position: RowPosition) -> InlineRow
+    ensures { result ≡ new_row annotation position }
+{
+    InlineRow {
+        offset: position.offset,
+        length: own_length(annotation),
+        file_index: FileIndex(position.file),
+        line_start: position.line,
+    }
+}
+
+// A row, with this length where it had none.
+fn with_length(length: Option<u32>, row: InlineRow) -> InlineRow
+    ensures { result ≡ with_length length row }
+{
+    InlineRow {
+        length: row.length.or(length),
+        ..row
+    }
+}
+
+// The row before one that starts at this offset.
+fn closed(offset: u32, row: InlineRow) -> InlineRow
+    ensures { result ≡ closed offset row }
+{
+    with_length(offset.checked_sub(row.offset), row)
+}
+
+// The last row, with the length that the annotation after it says.
+fn lengthened(annotation: Annotation, last: Option<InlineRow>) -> Option<InlineRow>
+    ensures { result ≡ lengthened annotation last }
+{
+    match (annotation, last) {
+        (Annotation::Length(length), Some(row)) => Some(with_length(Some(length), row)),
+        _ => last,
+    }
+}

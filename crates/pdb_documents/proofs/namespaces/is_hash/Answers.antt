@@ -1,6 +1,0 @@
-use Rattle.std.proofs.Common.{◌∙◌}
-use Rattle.pdb_documents.proofs.NamespaceLemmas.{hash-parsed}
-use Rattle.pdb_documents.proofs.namespaces.is_hash.Goals as goal
-
-pub returns : goal.returns
-returns c = c.is_ok.ensures.value ∙ hash-parsed c.args.text.now _ c.from_str_radix.ensures.value

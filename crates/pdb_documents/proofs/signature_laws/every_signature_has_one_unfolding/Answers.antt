@@ -1,7 +1,0 @@
-use Rattle.pdb_documents.proofs.DocumentLemmas.{one-unfolding}
-use Rattle.pdb_documents.proofs.UnfoldingLemmas.{print_inputs-below}
-use Rattle.pdb_documents.proofs.signature_laws.every_signature_has_one_unfolding.Goals as goal
-
-pub returns : goal.returns
-returns c = λ link_inputs types ids pointer flags module_index name index.
-    one-unfolding _ (print_inputs-below link_inputs types ids pointer flags module_index) _

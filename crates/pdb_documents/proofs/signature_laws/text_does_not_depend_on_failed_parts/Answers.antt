@@ -1,5 +1,0 @@
-use Rattle.pdb_documents.proofs.AlikeLemmas.{alike-runs}
-use Rattle.pdb_documents.proofs.signature_laws.text_does_not_depend_on_failed_parts.Goals as goal
-
-pub returns : goal.returns
-returns c = alike-runs

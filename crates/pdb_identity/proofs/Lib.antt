@@ -1,0 +1,3 @@
+mod AgeLemmas
+mod DebugIdExamples
+mod DebugIdLemmas

@@ -1,0 +1,69 @@
+//! Why a file can't be read at all: no PDB file, a program, a compressed file, an older version, cut short.
+
+ghost use Rattle.std.specs.Prelude.{◌≡◌};
+ghost use Rattle.pdb_msf.specs.ContainerError.{other_fault};
+
+use crate::faults::Fault;
+use thiserror::Error;
+
+/// Why a file can't be read at all.
+#[derive(Debug, Clone, Copy, PartialEq, Eq, Error)]
+pub enum ContainerError {
+    /// The file doesn't begin as a PDB file of version 7.00 does, or has blocks of a size that none has.
+    #[error("not a PDB file")]
+    NotAPdbFile,
+    /// The file is a program or a library.
+    #[error("a program (EXE or DLL), not its PDB file")]
+    Program,
+    /// The file has the debugging records of a program for .NET.
+    #[error("a .NET portable PDB")]
+    PortablePdb,
+    /// The file is compressed, as symbol stores have files.
+    #[error("a compressed file (CAB, .pd_)")]
+    Compressed,
+    /// The file is a PDB file of the version before 7.00.
+    #[error("a PDB file of version 2.00 (JG)")]
+    OldPdbFile,
+    /// The file ends before its directory of streams does.
+    #[error("the file is cut short before the end of its directory")]
+    CutShort,
+    /// The streams of the file are longer than the file together.
+    #[error("the streams are longer than the file together")]
+    StreamsTooLong,
+    /// There was no memory. The same call may succeed later.
+    #[error("out of memory")]
+    OutOfMemory,
+}
+
+/// What a file is that is no PDB file of version 7.00, by its first bytes.
+#[tactic(auto, unfolding(crate::specs::ContainerError::other_fault))]
+pub fn other_file(file: &[u8]) -> ContainerError
+    ensures { result ≡ other_fault file.now }
+{
+    if file.starts_with(b"MZ") {
+        return ContainerError::Program;
+    }
+    if file.starts_with(b"BSJB") {
+        return ContainerError::PortablePdb;
+    }
+    if file.starts_with(b"MSCF") || file.starts_with(b"SZDD") {
+        return ContainerError::Compressed;
+    }
+    if file.starts_with(b"Microsoft C/C++ program database 2.00") {
+        return ContainerError::OldPdbFile;
+    }
+    ContainerError::NotAPdbFile
+}
+
+impl From<Fault> for ContainerError {
+    ghost use Rattle.pdb_msf.specs.Faults.{GivesFault};
+
+    ghost from_gives = { GivesFault };
+
+    fn from(fault: Fault) -> ContainerError {
+        match fault {
+            Fault::Broken(_) => ContainerError::CutShort,
+            Fault::OutOfMemory => ContainerError::OutOfMemory,
+        }
+    }
+}

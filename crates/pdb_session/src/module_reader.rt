@@ -1,0 +1,224 @@
+//! Reads modules of a PDB file, with the types and ids that their functions name.
+
+ghost use Rattle.std.specs.Prelude.{◌≡◌, All, List, false, length, None, IfOk, OnErr, OnOk};
+ghost use Rattle.pdb_container.specs.ModulePlaces.{ModuleOrFault};
+ghost use Rattle.pdb_container.specs.Front.{SameFront};
+ghost use Rattle.pdb_known.specs.Known.{all_read};
+ghost use Rattle.pdb_session.specs.FileParts.{AreModulesOf, IsModuleOf, IsWhole, OpensFile, ReadsFile};
+ghost use Rattle.pdb_session.specs.FileParts.{nothing_read, with_all, with_ids, with_modules, with_types};
+ghost use Rattle.pdb_session.specs.Session.{no_entries};
+
+use crate::front_records::{FileFront, FrontRecords, read_front_records};
+use crate::front_streams::FrontStreams;
+use crate::items_read::{IdsRead, TypesRead, read_all_items, read_ids, read_types};
+use crate::module_reads::{
+    ModuleRead, has_any_unnamed_code, name_code, put_modules, read_modules, read_modules_at,
+    repair_modules,
+};
+use crate::reachable_types::ReachableTypes;
+use crate::type_lists::TypeLists;
+use pdb_container::parts::{ModuleInfoResult, ModulePlace};
+use pdb_container::{MsfLayout, OpenError, Source, SourceError};
+use pdb_known::{EntriesRead, KnownRecords};
+use pdb_records::{IdInformation, TypeInformation};
+use pdb_repairs::Repair;
+use std::alloc::{AllocError, Global};
+
+/// What reads the parts of a PDB file that are missing.
+#[derive(Drop)]
+pub struct FileReader<S> {
+    pub map: MsfLayout,
+    pub source: S,
+    /// Where the records of each module are.
+    pub places: Vec<ModulePlace>,
+    pub lists: TypeLists,
+    reach: ReachableTypes,
+}
+
+impl<S: Source + Drop> FileReader<S> {
+    /// A reader of a file of this length, and everything in it except types, ids and modules.
+    pub fn open(
+        alloc: Global,
+        mut source: S,
+        file_length: usize,
+    ) -> Result<(Self, FileFront), OpenError>
+        ensures file { IfOk result (λ opened. OpensFile (S.bytes opened.0.source) opened.0.map
+            opened.0.places.items opened.0.lists opened.1.records) }
+        ensures inputs { IfOk result (λ opened. S.bytes opened.0.source ≡ S.bytes source) }
+        ensures length { IfOk result (λ opened. opened.0.map.file_length ≡ file_length) }
+    {
+        let map = MsfLayout::read(alloc, &mut source, file_length)?;
+        let streams = FrontStreams::read(alloc, &map, &mut source)?;
+        let front = read_front_records(alloc, streams, file_length)?;
+        let FrontRecords {
+            places,
+            lists,
+            reach,
+            front,
+        } = front;
+        let reader = FileReader {
+            map,
+            source,
+            places,
+            lists,
+            reach,
+        };
+        Ok((reader, front))
+    }
+
+    /// How many modules the file has.
+    pub fn module_count(&self) -> usize
+        ensures { result ≡ length self.now.places.items }
+    {
+        self.places.len()
+    }
+
+    /// Marks for the types, for the types whose size is known, and for the ids of the file: none was read.
+    pub fn nothing_read(
+        &self,
+        alloc: Global,
+    ) -> Result<(EntriesRead, EntriesRead, EntriesRead), AllocError>
+        ensures types { IfOk result (λ entries. entries.0 ≡ nothing_read self.now.lists.types.places) }
+        ensures sizes { IfOk result (λ entries. entries.1 ≡ nothing_read self.now.lists.types.places) }
+        ensures ids { IfOk result (λ entries. entries.2 ≡ nothing_read self.now.lists.ids.places) }
+    {
+        let lists = &self.lists;
+        Ok((
+            lists.types.nothing_read(alloc)?,
+            lists.types.nothing_read(alloc)?,
+            lists.ids.nothing_read(alloc)?,
+        ))
+    }
+
+    /// Reads the modules at these positions, and the types and ids that their functions name. Everything that is left
+    /// is read where one of them has code without a name, as chunks and jumps, whose function any module may list. What
+    /// is broken in the modules is taken out, and answered.
+    ///
+    /// Where there is no memory, or a range of the file can't be read, nothing counts as read that didn't before.
+    pub fn read_modules(
+        &mut self,
+        alloc: Global,
+        known: &mut KnownRecords,
+        positions: &[usize],
+    ) -> Result<Vec<Repair>, SourceError>
+        requires left { known.old.all ≡ false }
+        requires file { ReadsFile (S.bytes self.old.source) self.old.map self.old.places.items self.old.lists known.old }
+        ensures file { ReadsFile (S.bytes self.new.source) self.new.map self.new.places.items self.new.lists known.new }
+        ensures whole { IsWhole known.new }
+        ensures front { SameFront known.old.records known.new.records }
+        ensures unchanged { OnErr result (known.new ≡ known.old) }
+        ensures inputs { S.bytes self.new.source ≡ S.bytes self.old.source }
+        ensures map { self.new.map ≡ self.old.map }
+    {
+        let mut repairs = Vec::new(alloc);
+        let (map, source) = (&self.map, &mut self.source);
+        let modules = read_modules_at(alloc, map, source, &self.places, positions, &mut repairs)?;
+        if has_any_unnamed_code(alloc, &modules)? {
+            return self.read_all(alloc, known);
+        }
+        self.reach
+            .add_modules(alloc, &mut self.source, &self.lists, &modules)?;
+        let types = read_types(alloc, &mut self.source, &self.lists.types, &self.reach)?;
+        let ids = read_ids(alloc, &mut self.source, &self.lists.ids, &self.reach)?;
+        put_types(known, types);
+        put_ids(known, ids);
+        put_read_modules(known, modules);
+        Ok(repairs)
+    }
+
+    /// Reads everything that is left. What is broken in the modules is taken out, and answered of those that were not
+    /// read before.
+    ///
+    /// Where there is no memory, or a range of the file can't be read, nothing counts as read that didn't before.
+    pub fn read_all(
+        &mut self,
+        alloc: Global,
+        known: &mut KnownRecords,
+    ) -> Result<Vec<Repair>, SourceError>
+        requires left { known.old.all ≡ false }
+        requires file { ReadsFile (S.bytes self.old.source) self.old.map self.old.places.items self.old.lists known.old }
+        ensures file { ReadsFile (S.bytes self.new.source) self.new.map self.new.places.items self.new.lists known.new }
+        ensures all { OnOk result (known.new ≡ all_read known.new.records) }
+        ensures whole { IsWhole known.new }
+        ensures front { SameFront known.old.records known.new.records }
+        ensures unchanged { OnErr result (known.new ≡ known.old) }
+        ensures inputs { S.bytes self.new.source ≡ S.bytes self.old.source }
+        ensures map { self.new.map ≡ self.old.map }
+    {
+        let types = read_all_items(alloc, &mut self.source, &self.lists.types)?;
+        let ids = read_all_items(alloc, &mut self.source, &self.lists.ids)?;
+        let mut modules = read_modules(alloc, &self.map, &mut self.source, &self.places)?;
+        name_code(alloc, known, &mut modules, self.map.file_length())?;
+        let repairs = repair_modules(alloc, known, &mut modules)?;
+        put_all(alloc, known, types, ids, modules);
+        self.lists.types.places = None;
+        self.lists.ids.places = None;
+        self.reach = ReachableTypes::over_nothing(alloc);
+        Ok(repairs)
+    }
+}
+
+// Puts the types that were read in place of others, if the list can be read.
+fn put_types(known: &mut KnownRecords, types: Option<TypesRead>)
+    ensures { known.new ≡ with_types known.old types }
+{
+    if let Some(read) = types {
+        known.records.type_information = Ok(read.information);
+        known.types = read.types;
+        known.sizes = read.sizes;
+    }
+}
+
+// Puts the ids that were read in place of others, if the list can be read.
+fn put_ids(known: &mut KnownRecords, ids: Option<IdsRead>)
+    ensures { known.new ≡ with_ids known.old ids }
+{
+    if let Some(read) = ids {
+        known.records.id_information = Ok(read.information);
+        known.ids = read.ids;
+    }
+}
+
+// Puts the modules that were read at their positions, and marks them as read.
+fn put_read_modules(known: &mut KnownRecords, read: Vec<ModuleRead>)
+    ensures rest { known.new ≡ with_modules known.old known.new.modules known.new.records.module_infos }
+    ensures same { (whole : List ModuleOrFault) → All (IsModuleOf whole) read.items
+        → AreModulesOf whole known.old.modules known.old.records.module_infos
+        → AreModulesOf whole known.new.modules known.new.records.module_infos }
+{
+    put_modules(&mut known.records.module_infos, &mut known.modules, read);
+}
+
+// Puts everything in place of what was read before, and marks all as read.
+fn put_all(
+    alloc: Global,
+    known: &mut KnownRecords,
+    types: Option<TypeInformation>,
+    ids: Option<IdInformation>,
+    modules: Vec<ModuleInfoResult>,
+)
+    ensures { known.new ≡ all_read (with_all known.old.records types ids modules.items) }
+{
+    if let Some(types) = types {
+        known.records.type_information = Ok(types);
+    }
+    if let Some(ids) = ids {
+        known.records.id_information = Ok(ids);
+    }
+    known.records.module_infos = modules;
+    known.all = true;
+    known.modules = Vec::new(alloc);
+    known.types = no_entries(alloc);
+    known.sizes = no_entries(alloc);
+    known.ids = no_entries(alloc);
+}
+
+/// Marks of a stream without entries.
+pub fn no_entries(alloc: Global) -> EntriesRead
+    ensures { result ≡ no_entries }
+{
+    EntriesRead {
+        first: 0,
+        read: Vec::new(alloc),
+    }
+}

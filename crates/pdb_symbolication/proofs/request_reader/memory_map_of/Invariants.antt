@@ -1,0 +1,11 @@
+-- The entries that were read, and those that are left, say what the array does.
+use Rattle.std.proofs.Common.{◌≡◌, drop, map}
+use Rattle.serde_json.specs.View.{items_view}
+use Rattle.pdb_symbolication.specs.RequestValues.{elements_from, entry_of, entry_seen}
+use Rattle.pdb_symbolication.proofs.RequestLemmas.{after}
+use Rattle.pdb_symbolication.proofs.request_reader.memory_map_of.Given as goal
+
+abbrev pub invariant-loop-number : goal.invariant-loop-number
+invariant-loop-number l =
+    elements_from 0 entry_of (items_view l.values)
+    ≡ after (map entry_seen l.entries.items) (elements_from l.number entry_of (items_view (drop l.number l.values)))

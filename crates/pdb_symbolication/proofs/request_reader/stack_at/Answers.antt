@@ -1,0 +1,10 @@
+-- What is read of the element, seen from around it.
+use Rattle.std.proofs.Common.{decimal}
+use Rattle.pdb_symbolication.specs.RequestValues.{stack_seen}
+use Rattle.pdb_symbolication.proofs.RequestLemmas.{agrees_inside}
+use Rattle.pdb_symbolication.proofs.request_reader.stack_at.Goals as goal
+
+pub returns : goal.returns
+returns c =
+    agrees_inside stack_seen (decimal c.args.number) c.stack_of.result c.inside_element.result _
+    c.inside_element.ensures c.stack_of.ensures

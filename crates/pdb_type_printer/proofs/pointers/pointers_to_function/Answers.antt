@@ -1,0 +1,10 @@
+use Rattle.std.proofs.lemmas.Result.{on_ok_weaker}
+use Rattle.std.proofs.Common.{arith}
+use Rattle.pdb_type_printer.proofs.StandsLemmas.{stands_all, stands_fewer}
+use Rattle.pdb_type_printer.proofs.pointers.pointers_to_function.Goals as goal
+
+pub returns : goal.returns
+returns c = on_ok_weaker c.push6.result (λ put w.
+    let all = stands_fewer 0 (omega arith) (stands_all w put) in
+    rw c.unless_left_out-return_type.ensures at all)
+    c.push6.ensures

@@ -1,0 +1,50 @@
+//! What the flags of a formatter say of how signatures are printed, one test for each flag.
+
+ghost use Rattle.std.specs.Prelude.{◌≡◌};
+ghost use Rattle.pdb_type_texts.specs.FlagTests.{without_return_type, without_static, with_space_after_comma};
+ghost use Rattle.pdb_type_texts.specs.FlagTests.{with_space_before_pointer, with_names_alone, without_arguments};
+
+use bitflags::Flags;
+use pdb_types::TypeFormatterFlags;
+
+/// Whether functions are printed without the type that they return.
+pub fn without_return_type(flags: TypeFormatterFlags) -> bool
+    ensures { result ≡ without_return_type flags }
+{
+    flags.intersects(TypeFormatterFlags::NO_FUNCTION_RETURN)
+}
+
+/// Whether methods are printed without the word `static`.
+pub fn without_static(flags: TypeFormatterFlags) -> bool
+    ensures { result ≡ without_static flags }
+{
+    flags.intersects(TypeFormatterFlags::NO_MEMBER_FUNCTION_STATIC)
+}
+
+/// Whether a space stands after each comma of a list of arguments.
+pub fn with_space_after_comma(flags: TypeFormatterFlags) -> bool
+    ensures { result ≡ with_space_after_comma flags }
+{
+    flags.intersects(TypeFormatterFlags::SPACE_AFTER_COMMA)
+}
+
+/// Whether a space stands before each `*` and `&`.
+pub fn with_space_before_pointer(flags: TypeFormatterFlags) -> bool
+    ensures { result ≡ with_space_before_pointer flags }
+{
+    flags.intersects(TypeFormatterFlags::SPACE_BEFORE_POINTER)
+}
+
+/// Whether of a class, a union or an enumeration only the name is printed.
+pub fn with_names_alone(flags: TypeFormatterFlags) -> bool
+    ensures { result ≡ with_names_alone flags }
+{
+    flags.intersects(TypeFormatterFlags::NAME_ONLY)
+}
+
+/// Whether functions are printed without their arguments.
+pub fn without_arguments(flags: TypeFormatterFlags) -> bool
+    ensures { result ≡ without_arguments flags }
+{
+    flags.intersects(TypeFormatterFlags::NO_ARGUMENTS)
+}

@@ -1,0 +1,177 @@
+//! The pieces of text that signatures are made of: words, names, notes of what is missing.
+
+ghost use Rattle.std.specs.Prelude.{◌≡◌, ◌++◌, OnOk, string_bytes};
+ghost use Rattle.pdb_records.specs.Names.{lossy};
+ghost use Rattle.pdb_type_texts.specs.Namespaces.{namespace_text};
+ghost use Rattle.pdb_type_texts.specs.Wording.{missing_text, unimplemented_text, unhandled_text};
+ghost use Rattle.pdb_type_texts.specs.Wording.{unhandled_scope_text, class_word, declared_text};
+ghost use Rattle.pdb_type_texts.specs.Wording.{function_name, static_text, comma, wording_text};
+
+use crate::attributes::{Attribute, Predecessor, write_attributes};
+use crate::dimensions::write_dimensions;
+use crate::flag_tests::{with_names_alone, with_space_after_comma, without_static};
+use crate::namespaces::namespace_name;
+use crate::primitive_names::write_primitive;
+use pdb_records::{ClassKind, PrimitiveType, RawString, TypeIndex};
+use pdb_types::TypeFormatterFlags;
+use std::alloc::AllocError;
+
+/// A piece of a signature that is known as it stands.
+#[derive(Drop)]
+pub enum Wording<'s> {
+    /// This text.
+    Text(&'s str),
+    /// A note of a type or an id that is missing.
+    MissingType(u32),
+    /// A note of a type or an id of a kind that the reader of the records doesn't know.
+    UnimplementedKind(u16),
+    /// A note of a type of a kind that is read and not printed.
+    UnhandledKind(&'s str),
+    /// What stands for a scope of a kind that is read and not printed.
+    UnhandledScope(&'s str),
+    /// A name, with the word that it was declared with before it unless names stand alone.
+    Declared(&'static str, &'s RawString),
+    /// The name of a function, or a note where it is empty.
+    FunctionName(&'s RawString),
+    /// The name of a namespace.
+    Namespace(&'s RawString),
+    /// A type that the compiler brings, constant or not.
+    Primitive(PrimitiveType, bool),
+    /// The pointers to a function, which stand in parentheses; the last collected stands last.
+    Pointers(Vec<Attribute>),
+    /// The dimensions of an array, by the sizes of its levels and of its base.
+    Dimensions(Vec<u32>, u64),
+}
+
+/// Appends a piece of a signature.
+/// Answers `AllocError` where memory runs out.
+pub fn write(
+    text: &mut String,
+    flags: TypeFormatterFlags,
+    wording: &Wording<'_>,
+) -> Result<(), AllocError>
+    ensures { OnOk result (string_bytes text.new ≡ string_bytes text.old ++ wording_text flags wording.now) }
+{
+    match wording {
+        Wording::Text(known) => text.push_str(known),
+        Wording::MissingType(index) => write_missing(text, *index),
+        Wording::UnimplementedKind(kind) => write_unimplemented(text, *kind),
+        Wording::UnhandledKind(kind) => write_unhandled(text, kind),
+        Wording::UnhandledScope(kind) => write_unhandled_scope(text, kind),
+        Wording::Declared(word, name) => write_declared(text, flags, word, name),
+        Wording::FunctionName(name) => write_function_name(text, name),
+        Wording::Namespace(name) => write_namespace(text, name),
+        Wording::Primitive(primitive, constant) => {
+            write_primitive(text, flags, primitive, *constant)
+        }
+        Wording::Pointers(attributes) => {
+            write_attributes(text, flags, Predecessor::Opening, attributes.as_slice())
+        }
+        Wording::Dimensions(levels, base) => write_dimensions(text, levels.as_slice(), *base),
+    }
+}
+
+/// Appends the note of a type or an id that is missing.
+pub fn write_missing(text: &mut String, index: u32) -> Result<(), AllocError>
+    ensures { OnOk result (string_bytes text.new ≡ string_bytes text.old ++ missing_text index) }
+{
+    write!(text, "<missing type 0x{index:x}>")
+}
+
+// Appends the note of a type or an id of a kind that the reader of the records doesn't know.
+fn write_unimplemented(text: &mut String, kind: u16) -> Result<(), AllocError>
+    ensures { OnOk result (string_bytes text.new ≡ string_bytes text.old ++ unimplemented_text kind) }
+{
+    write!(text, "<unimplemented type kind 0x{kind:x}>")
+}
+
+// Appends the note of a type of a kind that is read and not printed.
+fn write_unhandled(text: &mut String, kind: &str) -> Result<(), AllocError>
+    ensures { OnOk result (string_bytes text.new ≡ string_bytes text.old ++ unhandled_text kind.now) }
+{
+    write!(text, "unhandled type /* {kind} */")
+}
+
+// Appends what stands for a scope of a kind that is read and not printed.
+fn write_unhandled_scope(text: &mut String, kind: &str) -> Result<(), AllocError>
+    ensures { OnOk result (string_bytes text.new ≡ string_bytes text.old ++ unhandled_scope_text kind.now) }
+{
+    write!(text, "<unhandled id scope {kind}>::")
+}
+
+// Appends the name of a function, or a note where it is empty.
+fn write_function_name(text: &mut String, name: &RawString) -> Result<(), AllocError>
+    ensures { OnOk result (string_bytes text.new ≡ string_bytes text.old ++ function_name (lossy name.now)) }
+{
+    let name = name.to_string_lossy(*text.allocator())?;
+    text.push_str(function_name(name.as_str()))
+}
+
+// Appends what a namespace is called in print.
+fn write_namespace(text: &mut String, name: &RawString) -> Result<(), AllocError>
+    ensures { OnOk result (string_bytes text.new ≡ string_bytes text.old ++ namespace_text (lossy name.now)) }
+{
+    let name = name.to_string_lossy(*text.allocator())?;
+    text.push_str(namespace_name(name.as_str()))
+}
+
+// Appends a name as text, with the word that it was declared with before it, unless names stand
+// alone.
+fn write_declared(
+    text: &mut String,
+    flags: TypeFormatterFlags,
+    word: &str,
+    name: &RawString,
+) -> Result<(), AllocError>
+    ensures { OnOk result (string_bytes text.new ≡ string_bytes text.old ++ declared_text flags word.now name.now) }
+{
+    if !with_names_alone(flags) {
+        text.push_str(word)?;
+    }
+    let name = name.to_string_lossy(*text.allocator())?;
+    text.push_str(name.as_str())
+}
+
+/// The word that a class was declared with, with a space after it.
+pub fn class_word(kind: ClassKind) -> &'static str
+    ensures { result.now ≡ class_word kind }
+{
+    match kind {
+        ClassKind::Class => "class ",
+        ClassKind::Interface => "interface ",
+        ClassKind::Struct => "struct ",
+    }
+}
+
+/// The name of a function, or a note where it is empty.
+pub fn function_name(name: &str) -> &str
+    ensures { result.now ≡ function_name name.now }
+{
+    if name.is_empty() {
+        "<name omitted>"
+    } else {
+        name
+    }
+}
+
+/// What stands before a method: `static` where it has no `this`, unless that word is left out.
+pub fn static_word(flags: TypeFormatterFlags, this: Option<TypeIndex>) -> &'static str
+    ensures { result.now ≡ static_text flags this }
+{
+    if this.is_some() || without_static(flags) {
+        ""
+    } else {
+        "static "
+    }
+}
+
+/// What stands between two arguments.
+pub fn comma(flags: TypeFormatterFlags) -> &'static str
+    ensures { result.now ≡ comma flags }
+{
+    if with_space_after_comma(flags) {
+        ", "
+    } else {
+        ","
+    }
+}
