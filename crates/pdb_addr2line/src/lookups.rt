@@ -215,6 +215,16 @@ impl<'a, P: ModuleProvider> Context<'a, P> {
         )
     }
 
+    /// The index of the module whose code lies at an address: the module of the contribution over it.
+    pub fn module_at(&self, address: u32) -> Option<usize>
+        ensures { result ≡ option_map (λ c. c.module_index) (contribution_at self.now.inputs address) }
+    {
+        let section_offset = self.section_offset_of(address)?;
+        let contributions = &self.tables.contributions;
+        let contribution = contributions.contribution_over(section_offset, &mut Probes::new())?;
+        Some(contribution.module_index)
+    }
+
     // The section offset of an address.
     fn section_offset_of(&self, address: u32) -> Option<PdbInternalSectionOffset>
         ensures { result ≡ internal_offset self.now.inputs.address_map (record { 0 = address }) }

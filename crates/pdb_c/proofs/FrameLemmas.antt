@@ -53,6 +53,7 @@ question_alike : {A B : Type 0} (r : Result A CallError) (s : Result B CallError
 question_alike r s before (question.Report command addresses) after alike left =
     left_alike r s before after command addresses.now alike left
 question_alike r s before (question.NextStart address) after alike left = left
+question_alike r s before (question.IsRead flags address) after alike left = left
 question_alike r s before _ after (answers a b) left = left
 question_alike r s before _ after (refusals why) left = left
 

@@ -1,5 +1,5 @@
 -- What a question for frames or for a function finds, as it is shown to C.
-use Rattle.std.specs.Prelude.{ℕ, List, [], ◌∷◌, ◌++◌, Option, Some, None, length, drop, nat_le, Bool, ◌&&◌}
+use Rattle.std.specs.Prelude.{ℕ, List, [], ◌∷◌, ◌++◌, Option, Some, None, length, drop, nat_le, Bool, true, false, ◌&&◌}
 use Rattle.std.specs.Prelude.{unwrap_or}
 use Rattle.std.specs.Option.{option_map_or}
 use Rattle.pdb_frames.specs.Frame.{FramesInfo}
@@ -38,6 +38,15 @@ shown_view found = record {
 -- the text of a report, as it is shown: no function and no rows
 abbrev pub shown_text : List ℕ → Shown
 shown_text text = record { start = 0; end = None; rows = []; texts = text }
+
+-- 1 for a flag that is set, and else 0
+abbrev pub flag_number : Bool → ℕ
+flag_number true = 1
+flag_number false = 0
+
+-- a flag, as it is shown in place of an address: no function and no rows
+abbrev pub shown_flag : Bool → Shown
+shown_flag flag = record { start = flag_number flag; end = None; rows = []; texts = [] }
 
 -- a function as frames: itself alone, with no file and no line
 abbrev pub frames_of_function : FunctionInfo → FramesInfo

@@ -10,3 +10,4 @@ pub mod FoundFrames
 pub mod Questions
 pub mod AnswerBuffers
 pub mod LibraryVersion
+pub mod Parts

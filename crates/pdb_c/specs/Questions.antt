@@ -1,6 +1,7 @@
 -- What a context, and a handle that holds it, is asked, what it answers, and what it remembers afterwards.
 use Rattle.std.specs.Prelude.{◌≡◌, ◌≢◌, ℕ, ℤ, nat_le, List, [], ◌∷◌, find, Option, Some, None, Result, Ok, Err}
-use Rattle.std.specs.Prelude.{option_map}
+use Rattle.std.specs.Prelude.{Bool, true, ◌==◌, option_map, slice_get, unwrap_or}
+use Rattle.std.specs.Option.{option_map_or}
 use Rattle.pdb_records.specs.Records.{Records}
 use Rattle.pdb_errors.specs.Outcomes.{and_then}
 use Rattle.pdb_records.specs.Provided.{ProviderInfos}
@@ -9,6 +10,7 @@ use Rattle.pdb_addr2line.specs.ContextInputs.{ContextState}
 use Rattle.pdb_addr2line.specs.ContextData.{info_at}
 use Rattle.pdb_addr2line.specs.Calls.{after_frames, after_calls}
 use Rattle.pdb_addr2line.specs.FunctionIter.{after_function, start_addresses, OnlyGainsBroken}
+use Rattle.pdb_addr2line.specs.Lookups.{contribution_at}
 use Rattle.pdb_addr2line.specs.NamedFunctions.{named_frames_answered, named_function_at}
 use Rattle.pdb_report_lib.specs.declared.reports.Command.{Command}
 use Rattle.pdb_report_lib.specs.declared.reports.ReportFault.{ReportFault}
@@ -18,7 +20,7 @@ use Rattle.pdb_c.specs.declared.call_error.CallError.TheVariants.{Closed, NoAddr
 use Rattle.pdb_c.specs.declared.found_frames.FoundFrames.{FoundFrames}
 use Rattle.pdb_c.specs.declared.found_frames.Question.{Question}
 use Rattle.pdb_c.specs.declared.found_frames.Question.TheVariants as question
-use Rattle.pdb_c.specs.FoundFrames.{Shown, shown, shown_text, shown_view, frames_of_function, start_alone}
+use Rattle.pdb_c.specs.FoundFrames.{Shown, shown, shown_flag, shown_text, shown_view, frames_of_function, start_alone}
 use Rattle.pdb_c.specs.CallError.{refusal_of_report}
 use Rattle.pdb_c.specs.Buffers.{Answers}
 use Rattle.pdb_c.specs.ReportTexts.{Agrees, with_refusal, text_of_context}
@@ -41,6 +43,15 @@ frames_over context address = with_refusal (λ error. AddressRefused) (named_fra
 abbrev pub next_start : ContextState Records → ℕ → Option ℕ
 next_start context address = find (λ start. nat_le address start) (start_addresses infos context.inputs)
 
+-- the flag of a module is set; a module without a flag has nothing to be read
+abbrev pub is_flagged : List ℕ → ℕ → Bool
+is_flagged flags module_index = unwrap_or (slice_get flags module_index) 1 == 1
+
+-- the module whose code lies at an address was read, by a flag for each module
+abbrev pub is_read_at : List ℕ → ContextState Records → ℕ → Bool
+is_read_at flags context address =
+    option_map_or (is_flagged flags) (option_map (λ c. c.module_index) (contribution_at context.inputs address)) true
+
 -- what a context answers to a question, as it is shown
 abbrev pub answer_in : ContextState Records → Question → Result Shown CallError
 answer_in context (question.Frames address) =
@@ -53,6 +64,7 @@ answer_in context (question.NextStart address) =
 answer_in context (question.Report command addresses) =
     and_then (report_asked command context addresses.now) (λ text.
     Ok (shown_text text))
+answer_in context (question.IsRead flags address) = Ok (shown_flag (is_read_at flags.now context address))
 
 -- what a handle answers to a question: refused where it is closed
 abbrev pub answer_of_handle : Option (ContextState Records) → Question → Result Shown CallError
@@ -95,6 +107,7 @@ IsLeftBy result before (question.Frames address) after =
 IsLeftBy result before (question.Function address) after =
     IsLeftByCall result before (after_function infos before address) after
 IsLeftBy result before (question.NextStart address) after = after ≡ before
+IsLeftBy result before (question.IsRead flags address) after = after ≡ before
 IsLeftBy result before (question.Report command addresses) after =
     IsLeftByReport result before after command addresses.now
 

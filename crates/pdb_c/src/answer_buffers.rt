@@ -6,7 +6,7 @@ ghost use Rattle.pdb_addr2line.specs.FunctionIter.{after_function, OnlyGainsBrok
 ghost use Rattle.pdb_addr2line.specs.NamedFunctions.{named_function_at};
 ghost use Rattle.pdb_c.specs.FoundFrames.{shown_view};
 ghost use Rattle.pdb_c.specs.AnswerBuffers.{shown_result, LeavesFrames};
-ghost use Rattle.pdb_c.specs.Questions.{infos, frames_over, answer_in, report_asked};
+ghost use Rattle.pdb_c.specs.Questions.{infos, frames_over, answer_in, is_flagged, is_read_at, report_asked};
 ghost use Rattle.pdb_c.specs.Questions.{IsLeftByCall, IsLeftBy, IsLeftByReport};
 ghost use Rattle.pdb_c.specs.ReportTexts.{Agrees};
 ghost use Rattle.pdb_c.specs.declared.found_frames.Question.TheVariants.{Frames, NextStart, Function as of_function};
@@ -14,8 +14,8 @@ ghost use Rattle.pdb_c.specs.declared.call_error.CallError.TheVariants.{OutOfMem
 
 use crate::call_error::CallError;
 use crate::found_frames::{
-    AnswerSizes, FoundFrames, Question, found_frames, found_text, function_from, function_match,
-    sizes,
+    AnswerSizes, FoundFrames, Question, found_flag, found_frames, found_text, function_from,
+    function_match, sizes,
 };
 use crate::frame_rows::FrameRow;
 use crate::report_texts::report_in;
@@ -115,6 +115,26 @@ fn report_asked(
     report_in(alloc, context, command, addresses)
 }
 
+// Whether the module whose code lies at an address was read, by a flag for each module.
+fn is_read_at(context: &Context<'_, ContextPdbData<'static>>, flags: &[u8], address: u32) -> bool
+    ensures { result ≡ is_read_at flags.now context.now address }
+{
+    match context.module_at(address) {
+        Some(module_index) => is_flagged(flags, module_index),
+        None => true,
+    }
+}
+
+// Whether the flag of a module is set. A module without a flag has nothing to be read.
+fn is_flagged(flags: &[u8], module_index: usize) -> bool
+    ensures { result ≡ is_flagged flags.now module_index }
+{
+    match flags.get(module_index) {
+        Some(flag) => *flag == 1,
+        None => true,
+    }
+}
+
 // What a context answers to a question.
 pub(crate) fn answer_in(
     alloc: Global,
@@ -132,6 +152,10 @@ pub(crate) fn answer_in(
             let text = report_asked(alloc, context, command, addresses)?;
             Ok(found_text(alloc, text))
         }
+        Question::IsRead(flags, address) => Ok(found_flag(
+            alloc,
+            is_read_at(context, flags, address),
+        )),
     }
 }
 

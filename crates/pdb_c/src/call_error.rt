@@ -3,12 +3,13 @@
 ghost use Rattle.std.specs.Prelude.{◌≡◌};
 ghost use Rattle.pdb_c.specs.declared.call_error.CallError.TheVariants.{OutOfMemory as out_of_memory};
 ghost use Rattle.pdb_c.specs.CallError.{code, refusal_of_fault, refusal_of_records, refusal_of_report};
-ghost use Rattle.pdb_c.specs.CallError.{refusal_of_container, refusal_of_file};
+ghost use Rattle.pdb_c.specs.CallError.{refusal_of_container, refusal_of_file, refusal_of_session, refusal_of_source};
 
 use pdb_addr2line::Error;
-use pdb_container::ContainerError;
+use pdb_container::{ContainerError, OpenError, SourceError};
 use pdb_json::RecordFault;
 use pdb_report_lib::ReportFault;
+use pdb_session::SessionError;
 use std::alloc::AllocError;
 
 /// Why a call from C has no answer.
@@ -169,6 +170,33 @@ impl From<pdb_container::PdbFileError> for CallError {
             pdb_container::PdbFileError::NoSectionHeaders => CallError::NoSectionHeaders,
             pdb_container::PdbFileError::Rearranged => CallError::Rearranged,
             pdb_container::PdbFileError::Broken(_, _) => CallError::BrokenStream,
+        }
+    }
+}
+
+impl From<SessionError> for CallError {
+    ghost from_gives = { λ error refusal. refusal ≡ refusal_of_session error };
+
+    /// What a call answers where no part of a file can be opened. Each range of the file is in memory, so one that can't
+    /// be read is after the file's end.
+    fn from(error: SessionError) -> CallError {
+        match error {
+            SessionError::File(OpenError::Container(fault)) => CallError::from(fault),
+            SessionError::File(OpenError::Unreadable) => CallError::CutShort,
+            SessionError::Refused(refusal) => CallError::from(refusal),
+            SessionError::Records(error) => CallError::from(error),
+        }
+    }
+}
+
+impl From<SourceError> for CallError {
+    ghost from_gives = { λ error refusal. refusal ≡ refusal_of_source error };
+
+    /// What a call answers where no more of a file can be read.
+    fn from(error: SourceError) -> CallError {
+        match error {
+            SourceError::OutOfMemory => CallError::OutOfMemory,
+            SourceError::Unreadable => CallError::CutShort,
         }
     }
 }

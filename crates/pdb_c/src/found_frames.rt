@@ -2,6 +2,7 @@
 ghost use Rattle.std.specs.Prelude.{◌≡◌, None, Some, option_map, IfOk};
 ghost use Rattle.pdb_function_info.specs.Function.{function_view};
 ghost use Rattle.pdb_c.specs.FoundFrames.{shown, shown_view, shown_text, frames_of_function, sizes, start_alone};
+ghost use Rattle.pdb_c.specs.FoundFrames.{shown_flag};
 
 use crate::frame_rows::{FrameRow, append_frames};
 use pdb_addr2line::{Frame, Function, FunctionFrames};
@@ -19,6 +20,8 @@ pub(crate) enum Question<'q> {
     NextStart(u32),
     /// The text of a report of addresses.
     Report(Command, &'q [u32]),
+    /// Whether the module whose code lies at an address was read, by a flag for each module.
+    IsRead(&'q [u8], u32),
 }
 
 /// How large an answer is, and the addresses of its function.
@@ -67,6 +70,18 @@ pub(crate) fn found_text(alloc: Global, text: Vec<u8>) -> FoundFrames
         end: None,
         rows: Vec::new(alloc),
         texts: text,
+    }
+}
+
+// A flag, in place of an address.
+pub(crate) fn found_flag(alloc: Global, flag: bool) -> FoundFrames
+    ensures { shown_view result ≡ shown_flag flag }
+{
+    FoundFrames {
+        start: u32::from(flag),
+        end: None,
+        rows: Vec::new(alloc),
+        texts: Vec::new(alloc),
     }
 }
 

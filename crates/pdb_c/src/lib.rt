@@ -18,6 +18,9 @@ mod library_version;
 mod machine_calls;
 mod module_contents;
 mod openings;
+mod part_calls;
+mod part_laws;
+mod part_openings;
 mod pdb_calls;
 mod pdb_openings;
 mod records_calls;
@@ -39,6 +42,8 @@ pub use handle_calls::{
 pub use handle_laws::a_handle_is_answered_as_its_bytes_are;
 pub use library_version::limberlime_version_unchecked;
 pub use machine_calls::limberlime_machine_unchecked;
+pub use part_calls::{limberlime_is_read_unchecked, limberlime_open_part_unchecked};
+pub use part_laws::a_part_answers_as_its_file;
 pub use pdb_calls::{limberlime_debug_id_unchecked, limberlime_open_pdb_unchecked};
 pub use records_calls::{limberlime_module_files_unchecked, limberlime_open_records_unchecked};
 pub use records_file_calls::{limberlime_frames_unchecked, limberlime_names_unchecked};

@@ -6,6 +6,7 @@ ghost use Rattle.pdb_repairs.specs.Repaired.{repaired, repairs_of};
 ghost use Rattle.pdb_errors.specs.Outcomes.{Refuses};
 ghost use Rattle.pdb_addr2line.specs.ContextData.{records_refusal};
 ghost use Rattle.pdb_known.specs.Known.{all_read};
+ghost use Rattle.pdb_known.specs.StrictlyClosed.{is_strictly_closed};
 ghost use Rattle.pdb_session.specs.CodeOwners.{lacks_owner, owners_of};
 ghost use Rattle.pdb_session.specs.FileParts.{IsPartOfFile, OpensFile, ReadsFile, RefusesFile, first_known};
 ghost use Rattle.pdb_session.specs.Session.{SameFile, needs, needs_none};
@@ -203,6 +204,30 @@ impl<S: Source + Drop> PdbSession<S> {
         ensures { result.now ≡ self.now.known.records }
     {
         &self.known.records
+    }
+
+    /// Whether nothing that was read leads to something that wasn't.
+    pub fn is_closed(&self) -> bool
+        ensures { result ≡ is_strictly_closed self.now.known }
+    {
+        self.is_closed
+    }
+
+    /// Gives out what was read. Nothing more can be read then.
+    pub fn into_known(self) -> KnownRecords
+        ensures answer { result ≡ self.known }
+        ensures file { IsPartOfFile result self.bytes self.file_length }
+    {
+        let PdbSession {
+            alloc: _,
+            known,
+            owners: _,
+            is_closed: _,
+            reader: _,
+            plan: _,
+            untold: _,
+        } = self;
+        known
     }
 
     /// Reads what is missing for answers at these addresses, relative to where the program is loaded. What is broken in
