@@ -7,6 +7,7 @@ use Rattle.pdb_frames.specs.Frame.{FrameInfo}
 use Rattle.pdb_answer_printer.specs.AnswerText.{answer_text, error_text}
 use Rattle.pdb_answer_printer.specs.JsonObjects.{frame_object, object_front, file_members, frames_member, error_member}
 use Rattle.pdb_answer_printer.specs.AnswerLines.{unknown}
+use Rattle.pdb_answer_printer.specs.SourceTexts.{FrameSource}
 use Rattle.pdb_answer_printer.specs.InputLineParser.{request_of}
 use Rattle.pdb_answer_printer.specs.InputLine.{Question, AtAddress, OfSymbol, AtNone}
 use Rattle.pdb_answer_printer.specs.declared.printer_options.Detail.{Detail}
@@ -47,6 +48,10 @@ two_frames =
 abbrev pub asked : Question
 asked = record { sort = Code; file = codes "app.exe"; target = AtAddress 4406 }
 
+-- what is printed of a source file
+abbrev pub with_source : List ℕ → List ℕ → FrameSource
+with_source url lines = record { url = url; lines = lines }
+
 -- each frame on one line
 pub pretty_lines : answer_text (options_of Llvm Brief true false) asked two_frames []
     ≡ codes "0x1136: Point::length at C:\\shapes.h:10:0\n (inlined by) Picture::draw at C:\\main.cpp:29:0\n\n"
@@ -60,11 +65,25 @@ unfolding digits
 lines_of_gnu = refl
 
 -- with the lines of the source file of the first
-pub verbose_lines : answer_text (options_of Llvm Verbose false false) asked two_frames (codes "10 >: {\n" ∷ [])
+pub verbose_lines : answer_text (options_of Llvm Verbose false false) asked two_frames (with_source [] (codes "10 >: {\n") ∷ [])
     ≡ codes "0x1136\nPoint::length\n  Filename: C:\\shapes.h\n  Line: 10\n  Column: 0\n10 >: {\n"
     ++ codes "Picture::draw\n  Filename: C:\\main.cpp\n  Line: 29\n  Column: 0\n\n"
 unfolding digits
 verbose_lines = refl
+
+-- with the URL of the source file of the first, on its line and on a line of its own
+pub lines_with_url :
+    answer_text (options_of Llvm Brief true false) asked two_frames (with_source (codes "https://a/b") [] ∷ [])
+    ≡ codes "0x1136: Point::length at C:\\shapes.h:10:0 https://a/b\n (inlined by) Picture::draw at C:\\main.cpp:29:0\n\n"
+unfolding digits
+lines_with_url = refl
+
+pub verbose_lines_with_url :
+    answer_text (options_of Llvm Verbose false false) asked two_frames (with_source (codes "https://a/b") [] ∷ [])
+    ≡ codes "0x1136\nPoint::length\n  Filename: C:\\shapes.h\n  Line: 10\n  Column: 0\n  SourceUrl: https://a/b\n"
+    ++ codes "Picture::draw\n  Filename: C:\\main.cpp\n  Line: 29\n  Column: 0\n\n"
+unfolding digits
+verbose_lines_with_url = refl
 
 -- an address in no function
 pub nothing_known : answer_text (options_of Llvm Brief false false) asked [] []
@@ -80,6 +99,17 @@ pub object_of_frame :
     ++ codes "\"Line\":7,\"StartAddress\":\"\",\"StartFileName\":\"\",\"StartLine\":0}]}")
 unfolding digits chars frame_object object_front file_members frames_member lib.Utf8.encode
 object_of_frame = refl
+
+-- the object of a frame with the lines and the URL of its source file
+pub object_with_url :
+    answer_text (options_of Json Brief false false) asked (frame_at (codes "f") (codes "a.c") 7 ∷ [])
+    (with_source (codes "https://a/b") (codes "7 >: {") ∷ [])
+    ≡ codes "{\"Address\":\"0x1136\",\"ModuleName\":\"app.exe\",\"Symbol\":["
+    ++ (codes "{\"Column\":0,\"Discriminator\":0,\"FileName\":\"a.c\",\"FunctionName\":\"f\","
+    ++ (codes "\"Line\":7,\"Source\":\"7 >: {\",\"SourceUrl\":\"https://a/b\","
+    ++ codes "\"StartAddress\":\"\",\"StartFileName\":\"\",\"StartLine\":0}]}"))
+unfolding digits chars frame_object object_front file_members frames_member lib.Utf8.encode
+object_with_url = refl
 
 pub object_of_error : error_text asked (codes "no such file")
     ≡ codes "{\"Address\":\"0x1136\",\"Error\":{\"Message\":\"no such file\"},\"ModuleName\":\"app.exe\"}"

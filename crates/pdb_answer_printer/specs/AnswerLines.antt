@@ -3,6 +3,7 @@ use Rattle.std.specs.Prelude.{ℕ, List, [], ◌∷◌, ◌++◌, codes, false, 
 use Rattle.std.specs.Fmt.{decimal, digits}
 use Rattle.pdb_frames.specs.Frame.{FrameInfo}
 use Rattle.pdb_answer_printer.specs.FrameNames.{function_of, file_of, line_of}
+use Rattle.pdb_answer_printer.specs.SourceTexts.{FrameSource, first_source, later_sources, url_after}
 use Rattle.pdb_answer_printer.specs.InputLine.{Target, AtAddress, AtNone}
 use Rattle.pdb_answer_printer.specs.declared.printer_options.Detail.{Detail}
 use Rattle.pdb_answer_printer.specs.declared.printer_options.Detail.TheVariants.{Brief, Verbose}
@@ -38,47 +39,43 @@ abbrev pub name_line : PrinterOptions → List ℕ → List ℕ → List ℕ
 name_line options start name = name_line_by options.names options start name
 
 -- file, line and column on one line, in GNU's form without the column; or each on a line of its own. Columns are 0
-abbrev pub location_by : Detail → Style → List ℕ → ℕ → List ℕ
-location_by Verbose style file line =
-    codes "  Filename: " ++ (file ++ (codes "\n  Line: " ++ (decimal line ++ codes "\n  Column: 0\n")))
-location_by Brief Gnu file line = file ++ (codes ":" ++ (decimal line ++ codes "\n"))
-location_by Brief style file line = file ++ (codes ":" ++ (decimal line ++ codes ":0\n"))
+abbrev pub place_by : Detail → Style → List ℕ → ℕ → List ℕ
+place_by Verbose style file line =
+    codes "  Filename: " ++ (file ++ (codes "\n  Line: " ++ (decimal line ++ codes "\n  Column: 0")))
+place_by Brief Gnu file line = file ++ (codes ":" ++ decimal line)
+place_by Brief style file line = file ++ (codes ":" ++ (decimal line ++ codes ":0"))
 
--- the same, as the options want it
-abbrev pub location : PrinterOptions → List ℕ → ℕ → List ℕ
-location options file line = location_by options.detail options.style file line
+-- what stands before a URL: a space, or the start of a line of its own
+abbrev pub url_start : Detail → List ℕ
+url_start Verbose = codes "\n  SourceUrl: "
+url_start Brief = codes " "
 
--- a frame: its function after this text, and its location
-abbrev pub frame_lines : PrinterOptions → List ℕ → FrameInfo → List ℕ
-frame_lines options start frame =
+-- file, line and column as the options want them, and after them the URL of the file, if there is one
+abbrev pub location : PrinterOptions → List ℕ → ℕ → List ℕ → List ℕ
+location options file line url =
+    place_by options.detail options.style file line ++ (url_after (url_start options.detail) url ++ codes "\n")
+
+-- a frame: its function after this text, and its location with this URL
+abbrev pub frame_lines : PrinterOptions → List ℕ → FrameInfo → List ℕ → List ℕ
+frame_lines options start frame url =
     name_line options start (function_of unknown frame)
-    ++ location options (file_of options unknown frame) (line_of frame)
+    ++ location options (file_of options unknown frame) (line_of frame) url
 
 -- what stands before the name of each frame but the innermost: that another was inlined into it, where a frame has one
 -- line
 abbrev pub outer_start : PrinterOptions → List ℕ
 outer_start options = if options.pretty then codes " (inlined by) " else []
 
--- the first of the texts of source lines; none where there are none
-abbrev pub first_source : List (List ℕ) → List ℕ
-first_source [] = []
-first_source (source ∷ sources) = source
-
--- the texts after the first
-abbrev pub later_sources : List (List ℕ) → List (List ℕ)
-later_sources [] = []
-later_sources (source ∷ sources) = sources
-
--- frames from inside to outside, the first after this text: each with the lines of its source file
-abbrev pub frames_lines : PrinterOptions → List ℕ → List FrameInfo → List (List ℕ) → List ℕ
+-- frames from inside to outside, the first after this text: each with the URL and the lines of its source file
+abbrev pub frames_lines : PrinterOptions → List ℕ → List FrameInfo → List FrameSource → List ℕ
 frames_lines options start [] sources = []
 frames_lines options start (frame ∷ frames) sources =
-    frame_lines options start frame ++ (first_source sources
+    frame_lines options start frame (first_source sources).url ++ ((first_source sources).lines
     ++ frames_lines options (outer_start options) frames (later_sources sources))
 
 -- a frame of which nothing is known
 abbrev pub unknown_frame : PrinterOptions → List ℕ
-unknown_frame options = name_line options [] unknown ++ location options unknown 0
+unknown_frame options = name_line options [] unknown ++ location options unknown 0 []
 
 -- of data of which nothing is known: its name, its start and its size, and its place
 abbrev pub unknown_data : List ℕ

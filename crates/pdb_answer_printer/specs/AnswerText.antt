@@ -4,6 +4,7 @@ use Rattle.pdb_frames.specs.Frame.{FrameInfo}
 use Rattle.pdb_answer_printer.specs.JsonObjects.{json_answer, json_unknown, json_error}
 use Rattle.pdb_answer_printer.specs.AnswerLines.{address_line, frames_lines, unknown_lines, answer_end}
 use Rattle.pdb_answer_printer.specs.InputLine.{Question}
+use Rattle.pdb_answer_printer.specs.SourceTexts.{FrameSource}
 use Rattle.pdb_answer_printer.specs.declared.printer_options.PrinterOptions.{PrinterOptions}
 use Rattle.pdb_answer_printer.specs.declared.printer_options.Style.{Style}
 use Rattle.pdb_answer_printer.specs.declared.printer_options.Style.TheVariants.{Json}
@@ -14,18 +15,18 @@ answer_of_lines options question lines =
     address_line options question.target ++ (lines ++ answer_end options.style)
 
 -- the lines of the frames, or that nothing is known where there are none
-abbrev pub found_lines : PrinterOptions → Question → List FrameInfo → List (List ℕ) → List ℕ
+abbrev pub found_lines : PrinterOptions → Question → List FrameInfo → List FrameSource → List ℕ
 found_lines options question [] sources = unknown_lines options question.sort question.target
 found_lines options question (frame ∷ frames) sources = frames_lines options [] (frame ∷ frames) sources
 
 -- the answer of an address of code, by the style
-abbrev pub answer_by : Style → PrinterOptions → Question → List FrameInfo → List (List ℕ) → List ℕ
+abbrev pub answer_by : Style → PrinterOptions → Question → List FrameInfo → List FrameSource → List ℕ
 answer_by Json options question frames sources = json_answer options question frames sources
 answer_by style options question frames sources =
     answer_of_lines options question (found_lines options question frames sources)
 
--- the answer of an address of code, with the frames there and the lines of the source file around each one's place
-abbrev pub answer_text : PrinterOptions → Question → List FrameInfo → List (List ℕ) → List ℕ
+-- the answer of an address of code, with the frames there, each with the URL and the lines of its source file
+abbrev pub answer_text : PrinterOptions → Question → List FrameInfo → List FrameSource → List ℕ
 answer_text options question frames sources = answer_by options.style options question frames sources
 
 -- the answer of a request of which nothing is known, by the style

@@ -4,7 +4,8 @@ use Rattle.std.specs.Fmt.{decimal}
 use Rattle.pdb_frames.specs.Frame.{FrameInfo}
 use Rattle.pdb_symbolication.specs.JsonTexts.{quoted}
 use Rattle.pdb_answer_printer.specs.FrameNames.{function_of, file_of, line_of}
-use Rattle.pdb_answer_printer.specs.AnswerLines.{hexadecimal, first_source, later_sources}
+use Rattle.pdb_answer_printer.specs.AnswerLines.{hexadecimal}
+use Rattle.pdb_answer_printer.specs.SourceTexts.{FrameSource, first_source, later_sources}
 use Rattle.pdb_answer_printer.specs.InputLine.{Question, Target, AtAddress, OfSymbol, AtNone}
 use Rattle.pdb_answer_printer.specs.declared.printer_options.NameStyle.{NameStyle}
 use Rattle.pdb_answer_printer.specs.declared.printer_options.NameStyle.TheVariants as names
@@ -36,18 +37,23 @@ abbrev pub object : Question → List ℕ → List ℕ → List ℕ
 object question members later =
     object_front question.target ++ (members ++ (file_members question ++ (later ++ codes "}")))
 
--- the lines of the source file, where there are some
-abbrev pub source_member : List ℕ → List ℕ
-source_member [] = []
-source_member (character ∷ characters) = codes ",\"Source\":" ++ quoted (character ∷ characters)
+-- a member with this text after its name, and nothing if the text is empty
+abbrev pub optional_member : List ℕ → List ℕ → List ℕ
+optional_member name [] = []
+optional_member name (character ∷ characters) = name ++ quoted (character ∷ characters)
 
--- a frame with this file, function, line, and lines of the source file; of where the function starts nothing is said
-unfoldable pub frame_object : List ℕ → List ℕ → ℕ → List ℕ → List ℕ
+-- the lines and the URL of the source file, each if there is one
+abbrev pub source_members : FrameSource → List ℕ
+source_members source =
+    optional_member (codes ",\"Source\":") source.lines ++ optional_member (codes ",\"SourceUrl\":") source.url
+
+-- a frame with this file, function and line, and with this of the source file; the start of the function is never said
+unfoldable pub frame_object : List ℕ → List ℕ → ℕ → FrameSource → List ℕ
 frame_object file function line source =
     codes "{\"Column\":0,\"Discriminator\":0,\"FileName\":" ++ (quoted file
     ++ (codes ",\"FunctionName\":" ++ (quoted function
     ++ (codes ",\"Line\":" ++ (decimal line
-    ++ (source_member source
+    ++ (source_members source
     ++ codes ",\"StartAddress\":\"\",\"StartFileName\":\"\",\"StartLine\":0}"))))))
 
 -- the name of a frame's function: empty where it isn't known or no names are wanted
@@ -56,12 +62,12 @@ json_function names.None frame = []
 json_function style frame = function_of [] frame
 
 -- a frame
-abbrev pub json_frame : PrinterOptions → FrameInfo → List ℕ → List ℕ
+abbrev pub json_frame : PrinterOptions → FrameInfo → FrameSource → List ℕ
 json_frame options frame source =
     frame_object (file_of options [] frame) (json_function options.names frame) (line_of frame) source
 
 -- frames from inside to outside, the first after this text, with a comma between two
-abbrev pub json_frames : PrinterOptions → List ℕ → List FrameInfo → List (List ℕ) → List ℕ
+abbrev pub json_frames : PrinterOptions → List ℕ → List FrameInfo → List FrameSource → List ℕ
 json_frames options start [] sources = []
 json_frames options start (frame ∷ frames) sources =
     start ++ (json_frame options frame (first_source sources)
@@ -69,10 +75,10 @@ json_frames options start (frame ∷ frames) sources =
 
 -- a frame of which nothing is known
 abbrev pub no_frame : List ℕ
-no_frame = frame_object [] [] 0 []
+no_frame = frame_object [] [] 0 (first_source [])
 
 -- the frames, or one of which nothing is known where there are none
-abbrev pub found_frames : PrinterOptions → List FrameInfo → List (List ℕ) → List ℕ
+abbrev pub found_frames : PrinterOptions → List FrameInfo → List FrameSource → List ℕ
 found_frames options [] sources = no_frame
 found_frames options (frame ∷ frames) sources = json_frames options [] (frame ∷ frames) sources
 
@@ -81,7 +87,7 @@ unfoldable pub frames_member : List ℕ → List ℕ
 frames_member frames = codes ",\"Symbol\":[" ++ (frames ++ codes "]")
 
 -- the answer of an address of code
-abbrev pub json_answer : PrinterOptions → Question → List FrameInfo → List (List ℕ) → List ℕ
+abbrev pub json_answer : PrinterOptions → Question → List FrameInfo → List FrameSource → List ℕ
 json_answer options question frames sources =
     object question [] (frames_member (found_frames options frames sources))
 

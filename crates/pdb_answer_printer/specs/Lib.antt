@@ -1,6 +1,7 @@
 pub mod BaseNames
 pub mod InputLine
 pub mod FrameNames
+pub mod SourceTexts
 pub mod AnswerLines
 pub mod InputNumbers
 pub mod InputLineParser

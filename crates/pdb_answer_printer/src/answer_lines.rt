@@ -1,14 +1,16 @@
 //! The lines of an answer in the styles of LLVM and GNU.
 
-ghost use Rattle.std.specs.Prelude.{◌≡◌, ◌++◌, [], map, string_bytes, OnOk};
+ghost use Rattle.std.specs.Prelude.{◌≡◌, ◌++◌, [], string_bytes, OnOk};
 ghost use Rattle.pdb_answer_printer.specs.AnswerLines.{address_line, answer_end, frame_lines, frames_lines};
-ghost use Rattle.pdb_answer_printer.specs.AnswerLines.{location, name_line, outer_start, unknown_frame, unknown_lines};
+ghost use Rattle.pdb_answer_printer.specs.AnswerLines.{location, name_line, outer_start, place_by, unknown_frame};
+ghost use Rattle.pdb_answer_printer.specs.AnswerLines.{unknown_lines, url_start};
 ghost use Rattle.pdb_answer_printer.specs.InputLine.{target_of};
+ghost use Rattle.pdb_answer_printer.specs.SourceTexts.{url_after};
 
 use crate::frame_names::{file_of, function_of, line_of};
 use crate::input_line::{InputLine, InputTarget, Sort};
 use crate::printer_options::{Detail, NameStyle, PrinterOptions, Style};
-use crate::source_texts::{first_source, later_sources};
+use crate::source_texts::{SourceText, first_source, later_sources};
 use pdb_frames::Frame;
 use std::alloc::AllocError;
 
@@ -63,24 +65,25 @@ fn write_unknown_frame(out: &mut String, options: &PrinterOptions) -> Result<(),
     ensures { OnOk result (string_bytes out.new ≡ string_bytes out.old ++ unknown_frame options.now) }
 {
     write_name(out, options, "", UNKNOWN)?;
-    write_location(out, options, UNKNOWN, 0)
+    write_location(out, options, UNKNOWN, 0, "")
 }
 
-/// Appends frames from inside to outside, each with the lines of its source file.
+/// Appends frames from inside to outside, each with the URL and the lines of its source file.
 pub(crate) fn write_frames(
     out: &mut String,
     options: &PrinterOptions,
     frames: &[Frame<'_>],
-    sources: &[String],
+    sources: &[SourceText],
 ) -> Result<(), AllocError>
     ensures { OnOk result (string_bytes out.new
-        ≡ string_bytes out.old ++ frames_lines options.now [] frames.now (map string_bytes sources.now)) }
+        ≡ string_bytes out.old ++ frames_lines options.now [] frames.now sources.now) }
 {
     let mut start = "";
     let mut later = sources;
     for frame in frames {
-        write_frame(out, options, start, frame)?;
-        out.push_str(first_source(later))?;
+        let source = first_source(later);
+        write_frame(out, options, start, frame, source.url)?;
+        out.push_str(source.lines)?;
         start = outer_start(options);
         later = later_sources(later);
     }
@@ -94,15 +97,16 @@ fn outer_start(options: &PrinterOptions) -> &'static str
     if options.pretty { " (inlined by) " } else { "" }
 }
 
-// Appends the lines of a frame, after a text that says what it is.
+// Appends the lines of a frame after `start`, with the URL of its source file.
 fn write_frame(
     out: &mut String,
     options: &PrinterOptions,
     start: &str,
     frame: &Frame<'_>,
+    url: &str,
 ) -> Result<(), AllocError>
     ensures { OnOk result (string_bytes out.new
-        ≡ string_bytes out.old ++ frame_lines options.now start.now frame.now) }
+        ≡ string_bytes out.old ++ frame_lines options.now start.now frame.now url.now) }
 {
     write_name(out, options, start, function_of(frame, UNKNOWN))?;
     write_location(
@@ -110,6 +114,7 @@ fn write_frame(
         options,
         file_of(options, frame, UNKNOWN),
         line_of(frame),
+        url,
     )
 }
 
@@ -134,13 +139,51 @@ fn write_location(
     options: &PrinterOptions,
     file: &str,
     line: u32,
+    url: &str,
 ) -> Result<(), AllocError>
     ensures { OnOk result (string_bytes out.new
-        ≡ string_bytes out.old ++ location options.now file.now line) }
+        ≡ string_bytes out.old ++ location options.now file.now line url.now) }
+{
+    write_place(out, options, file, line)?;
+    write_url(out, options, url)?;
+    out.push_str("\n")
+}
+
+// Appends file, line and column, without the end of the line.
+fn write_place(
+    out: &mut String,
+    options: &PrinterOptions,
+    file: &str,
+    line: u32,
+) -> Result<(), AllocError>
+    ensures { OnOk result (string_bytes out.new
+        ≡ string_bytes out.old ++ place_by options.now.detail options.now.style file.now line) }
 {
     match (options.detail, options.style) {
-        (Detail::Verbose, _) => { write!(out, "  Filename: {file}\n  Line: {line}\n  Column: 0\n") }
-        (Detail::Brief, Style::Gnu) => write!(out, "{file}:{line}\n"),
-        (Detail::Brief, _) => write!(out, "{file}:{line}:0\n"),
+        (Detail::Verbose, _) => write!(out, "  Filename: {file}\n  Line: {line}\n  Column: 0"),
+        (Detail::Brief, Style::Gnu) => write!(out, "{file}:{line}"),
+        (Detail::Brief, _) => write!(out, "{file}:{line}:0"),
+    }
+}
+
+// Appends the URL of a source file, if there is one.
+fn write_url(out: &mut String, options: &PrinterOptions, url: &str) -> Result<(), AllocError>
+    ensures { OnOk result (string_bytes out.new
+        ≡ string_bytes out.old ++ url_after (url_start options.now.detail) url.now) }
+{
+    if url.is_empty() {
+        return Ok(());
+    }
+    out.push_str(url_start(options.detail))?;
+    out.push_str(url)
+}
+
+// What stands before a URL.
+fn url_start(detail: Detail) -> &'static str
+    ensures { result.now ≡ url_start detail }
+{
+    match detail {
+        Detail::Verbose => "\n  SourceUrl: ",
+        Detail::Brief => " ",
     }
 }

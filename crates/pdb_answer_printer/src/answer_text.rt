@@ -1,6 +1,6 @@
 //! The text of an answer.
 
-ghost use Rattle.std.specs.Prelude.{◌≡◌, ◌++◌, map, string_bytes, OnOk};
+ghost use Rattle.std.specs.Prelude.{◌≡◌, ◌++◌, string_bytes, OnOk};
 ghost use Rattle.pdb_answer_printer.specs.AnswerText.{answer_of_lines, answer_text, found_lines, unknown_text};
 ghost use Rattle.pdb_answer_printer.specs.AnswerLines.{unknown_lines};
 ghost use Rattle.pdb_answer_printer.specs.InputLine.{question_of};
@@ -9,20 +9,21 @@ use crate::answer_lines::{end_answer, write_address, write_frames, write_unknown
 use crate::input_line::InputLine;
 use crate::json_objects::{write_json_answer, write_json_unknown};
 use crate::printer_options::{PrinterOptions, Style};
+use crate::source_texts::SourceText;
 use pdb_frames::Frame;
 use std::alloc::AllocError;
 
-/// Appends the answer of an address of code: its frames, or that there are none. The sources are the lines of the
-/// source file around each frame's place, where they are asked for.
+/// Appends the answer for an address of code: its frames, or that there are none. `sources` has what is printed of the
+/// source file of each frame, in the order of the frames. Frames for which it has nothing are printed without.
 pub fn write_answer(
     out: &mut String,
     options: &PrinterOptions,
     request: &InputLine<'_>,
     frames: &[Frame<'_>],
-    sources: &[String],
+    sources: &[SourceText],
 ) -> Result<(), AllocError>
     ensures { OnOk result (string_bytes out.new ≡ string_bytes out.old
-        ++ answer_text options.now (question_of request.now) frames.now (map string_bytes sources.now)) }
+        ++ answer_text options.now (question_of request.now) frames.now sources.now) }
 {
     match options.style {
         Style::Json => write_json_answer(out, options, request, frames, sources),
@@ -35,11 +36,11 @@ fn write_found(
     options: &PrinterOptions,
     request: &InputLine<'_>,
     frames: &[Frame<'_>],
-    sources: &[String],
+    sources: &[SourceText],
 ) -> Result<(), AllocError>
     ensures { OnOk result (string_bytes out.new ≡ string_bytes out.old
         ++ answer_of_lines options.now (question_of request.now)
-        (found_lines options.now (question_of request.now) frames.now (map string_bytes sources.now))) }
+        (found_lines options.now (question_of request.now) frames.now sources.now)) }
 {
     if frames.is_empty() {
         return write_nothing(out, options, request);

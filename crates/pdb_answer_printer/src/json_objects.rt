@@ -1,6 +1,6 @@
 //! The JSON object of an answer, whose members stand in the order of their names, as `llvm-symbolizer` has them.
 
-ghost use Rattle.std.specs.Prelude.{◌≡◌, ◌++◌, [], codes, map, string_bytes, OnOk};
+ghost use Rattle.std.specs.Prelude.{◌≡◌, ◌++◌, [], codes, string_bytes, OnOk};
 ghost use Rattle.pdb_answer_printer.specs.AnswerText.{error_text};
 ghost use Rattle.pdb_answer_printer.specs.JsonObjects.{error_member, file_members, json_answer, json_unknown};
 ghost use Rattle.pdb_answer_printer.specs.JsonObjects.{object, object_front, symbol_member};
@@ -10,6 +10,7 @@ ghost use Rattle.pdb_symbolication.specs.JsonTexts.{quoted};
 use crate::input_line::{InputLine, InputTarget, Sort};
 use crate::json_frames::write_frames_member;
 use crate::printer_options::PrinterOptions;
+use crate::source_texts::SourceText;
 use pdb_frames::Frame;
 use pdb_symbolication::write_quoted;
 use std::alloc::AllocError;
@@ -20,10 +21,10 @@ pub(crate) fn write_json_answer(
     options: &PrinterOptions,
     request: &InputLine<'_>,
     frames: &[Frame<'_>],
-    sources: &[String],
+    sources: &[SourceText],
 ) -> Result<(), AllocError>
     ensures { OnOk result (string_bytes out.new ≡ string_bytes out.old
-        ++ json_answer options.now (question_of request.now) frames.now (map string_bytes sources.now)) }
+        ++ json_answer options.now (question_of request.now) frames.now sources.now) }
 {
     open_object(out, request)?;
     write_file(out, request)?;

@@ -27,3 +27,4 @@ pub use input_line_parser::parse_input_line;
 pub use input_numbers::{parse_address, parse_number};
 pub use json_objects::write_json_error;
 pub use printer_options::{Detail, Digits, NameStyle, PrinterOptions, Style};
+pub use source_texts::SourceText;

@@ -104,11 +104,12 @@ abbrev pub repairs_of_symbols : Result SymbolTable StreamError → List Repair
 repairs_of_symbols (Ok table) = told GlobalSymbols table.symbols.fault
 repairs_of_symbols (Err fault) = NoGlobalSymbols fault ∷ []
 
--- the types, or the ids, of a program, and none where they can't be read
+-- the types, or the ids, of a program: if they can't be read, a list without entries that ends with the reason, so that a
+-- name that needs one of them is not known
 abbrev pub repaired_items : {I D : Type 0} → Result (ItemInformation I D) StreamError
     → Result (ItemInformation I D) StreamError
 repaired_items (Ok information) = Ok information
-repaired_items (Err fault) = Ok (record { items = record { items = []; fault = None } })
+repaired_items (Err fault) = Ok (record { items = record { items = []; fault = Some fault } })
 
 -- why a part can't be read
 abbrev pub unread_fault : {A : Type 0} → Result A StreamError → Option StreamError

@@ -1,6 +1,6 @@
 //! What is taken out of the records of a program, each with its fault.
 
-ghost use Rattle.std.specs.Prelude.{◌≡◌, [], ◌++◌, None, map, IfOk, OnOk};
+ghost use Rattle.std.specs.Prelude.{◌≡◌, [], ◌++◌, map, IfOk, OnOk};
 ghost use Rattle.pdb_records.specs.Sections.{listed};
 ghost use Rattle.pdb_repairs.specs.Repaired.{repaired, repaired_debug, repaired_debug_information, repaired_lists};
 ghost use Rattle.pdb_repairs.specs.Repaired.{repaired_items, repaired_read, repaired_symbols, repairs_from};
@@ -144,14 +144,15 @@ fn repair_global_symbols(
         Err(fault) => {
             repairs.push(Repair::NoGlobalSymbols(*fault))?;
             *read = Ok(SymbolTable {
-                symbols: no_items(alloc),
+                symbols: no_items(alloc, None),
             });
             Ok(())
         }
     }
 }
 
-// Puts an empty list in place of types, or of ids, that can't be read, and answers why they can't.
+// Replaces types, or ids, that can't be read by a list without entries that ends with the reason, and returns the reason.
+// A name that needs one of them is then not known, as if the list ended before it.
 fn take_unread<I: Drop, D: Drop>(
     alloc: Global,
     read: &mut Result<ItemInformation<I, D>, StreamError>,
@@ -164,18 +165,18 @@ fn take_unread<I: Drop, D: Drop>(
         Err(fault) => *fault,
     };
     *read = Ok(ItemInformation {
-        items: no_items(alloc),
+        items: no_items(alloc, Some(fault)),
     });
     Some(fault)
 }
 
-// A list without items that was read whole.
-fn no_items<T>(alloc: Global) -> Reading<T>
-    ensures { result ≡ record { items = []; fault = None } }
+// A list without items, and the reason why it ends early, if it does.
+fn no_items<T>(alloc: Global, fault: Option<StreamError>) -> Reading<T>
+    ensures { result ≡ record { items = []; fault = fault } }
 {
     Reading {
         items: Vec::new(alloc),
-        fault: None,
+        fault,
     }
 }
 

@@ -40,6 +40,7 @@ answer_too : (questions : Questions) (question : Question) (right others : â„• â
 answer_too questions question right others address text too answer = record {
   named = answer.named;
   sources = answer.sources;
+  urls = answer.urls;
   is = answer.is;
   frames = (
     answer.frames.0,

@@ -1,10 +1,12 @@
 -- What is printed for a text that asks for an address, by the frames that are right there.
-use Rattle.std.specs.Prelude.{◌≡◌, ℕ, ◌+◌, Bool, false, List, Option, Some, None, option_map, Result, Ok, Err}
-use Rattle.std.specs.Option.{option_map_or}
+use Rattle.std.specs.Prelude.{◌≡◌, ℕ, ◌+◌, Bool, false, List, [], Option, Some, None, map, option_map, unwrap_or, Result, Ok, Err}
+use Rattle.std.specs.Option.{option_and_then, option_map_or}
 use Rattle.pdb_records.specs.Records.{Records}
 use Rattle.pdb_errors.specs.declared.error.Error.{Error}
 use Rattle.pdb_types.specs.declared.flags.TypeFormatterFlags.{TypeFormatterFlags}
-use Rattle.pdb_frames.specs.Frame.{FramesInfo}
+use Rattle.pdb_frames.specs.Frame.{FrameInfo, FramesInfo}
+use Rattle.pdb_frames.specs.SourceFiles.{known_text}
+use Rattle.pdb_source_urls.specs.SourceUrls.{SourceUrls, url_of}
 use Rattle.pdb_msf.specs.MsfLayout.{IfFile}
 use Rattle.pdb_container.specs.PdbFile.{records_of}
 use Rattle.pdb_repairs.specs.Repaired.{repaired}
@@ -18,6 +20,7 @@ use Rattle.pdb_answer_printer.specs.AnswerText.{answer_text, unknown_text}
 use Rattle.pdb_answer_printer.specs.FrameNames.{shown_frames}
 use Rattle.pdb_answer_printer.specs.InputLineParser.{request_of}
 use Rattle.pdb_answer_printer.specs.InputLine.{Question, Target, AtAddress}
+use Rattle.pdb_answer_printer.specs.SourceTexts.{FrameSource}
 use Rattle.pdb_answer_printer.specs.declared.printer_options.Digits.{Digits}
 use Rattle.pdb_answer_printer.specs.declared.printer_options.NameStyle.{NameStyle}
 use Rattle.pdb_answer_printer.specs.declared.printer_options.NameStyle.TheVariants.{Short}
@@ -102,11 +105,21 @@ abbrev pub AreNamedFrames : Questions → (ℕ → Option FramesInfo → Type 0)
 AreNamedFrames questions right address named = (found : Option FramesInfo)
     × ((named ≡ option_map (public_named questions.names.now) found) × AreFrames right address found)
 
--- a text is the answer of an address of code: the frames that are right there, each with some lines of its source file
+-- the URL of a frame's source file, as a PDB file says it; empty if it says none
+abbrev pub frame_url : SourceUrls → FrameInfo → List ℕ
+frame_url urls frame = unwrap_or (option_and_then (url_of urls) (known_text frame.file)) []
+
+-- what is printed of the source files of frames has their URLs
+abbrev pub HaveUrls : SourceUrls → List FrameInfo → List FrameSource → Type 0
+HaveUrls urls frames sources = map (λ source. source.url) sources ≡ map (frame_url urls) frames
+
+-- a text is the answer of an address of code: the frames that are right there, each with the URL of its source file and
+-- with some lines of it
 pub record IsAnswer (questions : Questions) (question : Question) (right : ℕ → Option FramesInfo → Type 0)
     (address : Option ℕ) (text : List ℕ) : Type 0 where
   pub named : Option FramesInfo
-  pub sources : List (List ℕ)
+  pub sources : List FrameSource
+  pub urls : HaveUrls questions.source_urls.now (shown_frames questions.options.now.printer named) sources
   pub is : text ≡ answer_text questions.options.now.printer question
       (shown_frames questions.options.now.printer named) sources
   pub frames : AreNamedFrames questions right address named

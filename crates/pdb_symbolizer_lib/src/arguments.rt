@@ -34,7 +34,7 @@ struct Valued {
     help: &'static str,
 }
 
-static FLAGS: [Flag; 11] = [
+static FLAGS: [Flag; 12] = [
     Flag {
         name: "no-inlines",
         short: None,
@@ -82,6 +82,12 @@ static FLAGS: [Flag; 11] = [
         short: None,
         alias: None,
         help: "Print a function as its public symbol, where it has one",
+    },
+    Flag {
+        name: "source-url",
+        short: None,
+        alias: None,
+        help: "Print after each place the URL of its file, if the PDB file says it",
     },
     Flag {
         name: "show-id",

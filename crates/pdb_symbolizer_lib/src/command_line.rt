@@ -72,6 +72,7 @@ fn options_of<'w>(
         printer,
         decorated: matches.get_flag("no-demangle"),
         source_lines,
+        source_urls: matches.get_flag("source-url"),
         digits: digits(personality, naming),
         naming,
         base,

@@ -16,6 +16,7 @@ use crate::run_errors::RunError;
 use crate::run_state::RunState;
 use crate::status_line::StatusLine;
 use crate::unopened_files::end_unopened;
+use pdb_source_urls::SourceUrls;
 use crate::word_answers::answer_words;
 use std::io::{self, Read, Seek};
 use std::rt::Files;
@@ -29,7 +30,10 @@ pub fn answer_file<R: Files + Input + Print + Eprint + AllocGlobal>(
 ) -> Result<(), RunError> {
     let mut out = ByteStream(io::writer(rt));
     match open_file(rt, status_line, options, path) {
-        Ok(mut input) => answer_over(rt, &mut out, options, path, &mut input, rt.reader()),
+        Ok(mut input) => {
+            let urls = input.take_source_urls(rt.alloc());
+            answer_over(rt, &mut out, options, path, &urls, &mut input, rt.reader())
+        }
         Err(cause) if options.naming == FileNaming::ByOption && !cause.is_want_of_memory() => {
             end_unopened(rt, &mut out, options, path, &cause)?;
             Err(RunError::Unopened)
@@ -44,16 +48,17 @@ fn answer_over<R: Files + Eprint + AllocGlobal, W: Output, F: Read + Seek + Drop
     out: &mut W,
     options: &Options<'_>,
     path: &str,
+    urls: &SourceUrls,
     input: &mut OpenedFile<F>,
     lines: T,
 ) -> Result<(), RunError>
-    ensures answer { RunsOver options.now path.now input.old.image_base input.old.session (T.remaining lines) result
-        (W.contents out.old) (W.contents out.new) }
+    ensures answer { RunsOver options.now path.now urls.now input.old.image_base input.old.session
+        (T.remaining lines) result (W.contents out.old) (W.contents out.new) }
     ensures early { IfErr result (EndsAnswers (W.takes_all out.old) (reads_input options.now)
         (string_bytes input.old.path) (flags_of options.now.printer.names) input.new.session.known.records) }
 {
     let names = PublicNames::for_answers(rt.alloc(), options, input.records())?;
-    let questions = Questions::new(options, path, input, &names);
+    let questions = Questions::new(options, path, input, &names, urls);
     let mut state = RunState::new(rt.alloc());
     let words = options.addresses.as_slice();
     if words.is_empty() {

@@ -1,10 +1,12 @@
 //! The answer of one request: the frames of an address of code, or that nothing is known.
 
-ghost use Rattle.std.specs.Prelude.{◌≡◌, ℕ, List, IfErr, IfOk, option_map, string_bytes};
+ghost use Rattle.std.specs.Prelude.{◌≡◌, List, IfErr, IfOk, option_map, string_bytes};
 ghost use Rattle.pdb_answer_printer.specs.AnswerText.{answer_text, unknown_text};
 ghost use Rattle.pdb_answer_printer.specs.FrameNames.{shown_frames};
 ghost use Rattle.pdb_answer_printer.specs.InputLine.{question_of};
+ghost use Rattle.pdb_answer_printer.specs.SourceTexts.{FrameSource};
 ghost use Rattle.pdb_symbolizer_lib.specs.AnsweredRequests.{AnswersQuestion, AnswersText, AreFramesAt, AreNamedFrames};
+ghost use Rattle.pdb_symbolizer_lib.specs.AnsweredRequests.{HaveUrls, frame_url};
 ghost use Rattle.pdb_symbolizer_lib.specs.EarlyEnds.{out_of_memory};
 ghost use Rattle.pdb_symbolizer_lib.specs.ImageBases.{relative};
 ghost use Rattle.pdb_symbolizer_lib.specs.PublicNames.{public_named};
@@ -16,9 +18,10 @@ use crate::run_errors::RunError;
 use crate::run_state::RunState;
 use pdb_addr2line::{Error, Frame, FunctionFrames};
 use pdb_answer_printer::{
-    InputLine, InputTarget, Sort, file_of, shown_frames, write_answer, write_unknown,
+    InputLine, InputTarget, Sort, SourceText, file_of, shown_frames, write_answer, write_unknown,
 };
 use pdb_session::{QuestionError, SessionContext};
+use pdb_source_urls::SourceUrls;
 use std::alloc::{AllocError, Global};
 use std::rt::Files;
 
@@ -58,7 +61,7 @@ fn answer_request<R: Files + Eprint + AllocGlobal>(
     match (request.sort, request.place) {
         (Sort::Code, InputTarget::Address(address)) => {
             let found = frames_at(rt, questions, context, state, address)?;
-            Ok(text_of_found(rt, questions.options, state, request, &found)?)
+            Ok(text_of_found(rt, questions, state, request, &found)?)
         }
         _ => {
             print_lack(rt, request, given);
@@ -89,46 +92,75 @@ pub fn print_lack<R: Eprint>(rt: &R, request: &InputLine<'_>, given: &str) {
     }
 }
 
-// The answer of an address of code, with lines of source files where these are asked for.
+// The answer for an address of code, with the URLs and lines of source files that the options ask for.
 fn text_of_found<R: Files + AllocGlobal>(
     rt: &R,
-    options: &Options<'_>,
+    questions: &Questions<'_, '_>,
     state: &mut RunState,
     request: &InputLine<'_>,
     found: &Option<FunctionFrames<'_>>,
 ) -> Result<String, AllocError>
-    ensures { IfOk result (λ text. (sources : List (List ℕ)) × (string_bytes text
-        ≡ answer_text options.now.printer (question_of request.now)
-        (shown_frames options.now.printer found.now) sources)) }
+    ensures { IfOk result (λ text. let printer = questions.now.options.now.printer in
+        let frames = shown_frames printer found.now in
+        (sources : List FrameSource) × (HaveUrls questions.now.source_urls.now frames sources
+        × (string_bytes text ≡ answer_text printer (question_of request.now) frames sources))) }
 {
     let mut text = String::new(rt.alloc());
+    let options = questions.options;
     let frames = shown_frames(&options.printer, found);
-    let sources = sources_of(rt, options, state, frames)?;
+    let sources = sources_of(rt, questions, state, frames)?;
     write_answer(&mut text, &options.printer, request, frames, &sources)?;
     Ok(text)
 }
 
-// The lines around the place of each frame; none where none are asked for.
+// What is printed of the source file of each frame: its URL, and the lines around the frame's line. Either is empty if the
+// options don't ask for it.
 fn sources_of<R: Files + AllocGlobal>(
+    rt: &R,
+    questions: &Questions<'_, '_>,
+    state: &mut RunState,
+    frames: &[Frame<'_>],
+) -> Result<Vec<SourceText>, AllocError>
+    ensures { IfOk result (λ sources. HaveUrls questions.now.source_urls.now frames.now sources.items) }
+{
+    let mut sources = Vec::new(rt.alloc());
+    for frame in frames {
+        sources.push(SourceText {
+            url: frame_url(rt.alloc(), questions.source_urls, frame)?,
+            lines: lines_around(rt, questions.options, state, frame)?,
+        })?;
+    }
+    Ok(sources)
+}
+
+// The URL of a frame's source file. It is empty if nothing says it.
+fn frame_url(alloc: Global, urls: &SourceUrls, frame: &Frame<'_>) -> Result<String, AllocError>
+    ensures { IfOk result (λ url. string_bytes url ≡ frame_url urls.now frame.now) }
+{
+    let Some(file) = &frame.file else {
+        return Ok(String::new(alloc));
+    };
+    match urls.url_of(alloc, file.as_str())? {
+        Some(url) => Ok(url),
+        None => Ok(String::new(alloc)),
+    }
+}
+
+// The lines of a frame's source file around its line. It is empty if the options ask for none.
+fn lines_around<R: Files + AllocGlobal>(
     rt: &R,
     options: &Options<'_>,
     state: &mut RunState,
-    frames: &[Frame<'_>],
-) -> Result<Vec<String>, AllocError> {
-    let mut sources = Vec::new(rt.alloc());
+    frame: &Frame<'_>,
+) -> Result<String, AllocError> {
     let count = options.shown_source_lines();
     if count == 0 {
-        return Ok(sources);
+        return Ok(String::new(rt.alloc()));
     }
-    for frame in frames {
-        let file = file_of(&options.printer, frame, "");
-        sources.push(
-            state
-                .sources
-                .around(rt, file, frame.line.unwrap_or(0), count)?,
-        )?;
-    }
-    Ok(sources)
+    let file = file_of(&options.printer, frame, "");
+    state
+        .sources
+        .around(rt, file, frame.line.unwrap_or(0), count)
 }
 
 /// The frames of an address, of which the last has the name that the options want.

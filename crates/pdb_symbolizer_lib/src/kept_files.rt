@@ -5,6 +5,7 @@ use crate::file_stamps::FileStamp;
 use crate::input_files::{NamedFile, SourceFile};
 use crate::known_texts::KnownTexts;
 use crate::opened_files::{OpenedFile, open_source};
+use crate::options::Options;
 use crate::record_sizes::estimated_size;
 use crate::run_errors::RunError;
 use pdb_container::DebugId;
@@ -69,6 +70,7 @@ pub struct UsedFile<F: Read + Seek + Drop> {
 /// Opens a file that was found, unless it is open still.
 pub fn open_used<R: Files + Eprint + AllocGlobal>(
     rt: &R,
+    options: &Options<'_>,
     files: &mut KeptFiles<R::File>,
     source: SourceFile<R::File>,
 ) -> Result<UsedFile<R::File>, RunError> {
@@ -80,7 +82,7 @@ pub fn open_used<R: Files + Eprint + AllocGlobal>(
             stamp,
         }),
         None => Ok(UsedFile {
-            file: open_source(rt, source)?,
+            file: open_source(rt, options, source)?,
             texts: KnownTexts::new(rt.alloc()),
             stamp,
         }),
@@ -100,6 +102,7 @@ fn file_as_named<F: Read + Seek + Drop>(file: OpenedFile<F>, named: NamedFile) -
     let OpenedFile {
         path: _,
         session,
+        source_urls,
         image_base: _,
         code_id: _,
     } = file;
@@ -111,6 +114,7 @@ fn file_as_named<F: Read + Seek + Drop>(file: OpenedFile<F>, named: NamedFile) -
     OpenedFile {
         path,
         session,
+        source_urls,
         image_base,
         code_id,
     }

@@ -104,7 +104,7 @@ fn open_named<R: Files + Eprint + AllocGlobal>(
     path: &str,
 ) -> Result<UsedFile<R::File>, RunError> {
     let source = find_file_of_line(rt, status_line, options, &mut kept.programs, path)?;
-    open_used(rt, &mut kept.files, source)
+    open_used(rt, options, &mut kept.files, source)
 }
 
 // Answers a line that asks for nothing.
@@ -135,7 +135,8 @@ fn answer_lines_of<
     queue: &mut LineQueue<T>,
 ) -> Result<(), RunError> {
     let names = PublicNames::for_answers(rt.alloc(), options, input.records())?;
-    let questions = Questions::new(options, path, input, &names);
+    let urls = input.take_source_urls(rt.alloc());
+    let questions = Questions::new(options, path, input, &names, &urls);
     for _ in 0..u64::MAX {
         let addresses = addresses_of_lines(rt.alloc(), &questions, queue)?;
         input.read_for(rt, &addresses)?;
@@ -143,6 +144,7 @@ fn answer_lines_of<
             break;
         }
     }
+    input.source_urls = urls;
     Ok(())
 }
 

@@ -18,8 +18,10 @@ use pdb_container::SourceError;
 use pdb_identity::CodeId;
 use pdb_repairs::Repair;
 use pdb_session::{Opened, PdbSession, SessionError};
+use pdb_source_urls::{SourceUrls, read_source_urls};
 use std::alloc::Global;
 use std::io::{Read, Seek};
+use std::mem::replace;
 use std::rt::Files;
 
 /// A file that was opened for answers.
@@ -29,6 +31,8 @@ pub struct OpenedFile<F: Read + Seek + Drop> {
     /// named.
     pub path: String,
     pub session: PdbSession<FileBytes<F>>,
+    /// Where the source files can be fetched. It says nothing unless the options ask for URLs.
+    pub source_urls: SourceUrls,
     /// Where the program wants to be loaded, if one was named, and which build it is of.
     pub image_base: Option<u64>,
     pub code_id: Option<CodeId>,
@@ -40,6 +44,16 @@ impl<F: Read + Seek + Drop> OpenedFile<F> {
         ensures { result.now ≡ self.now.session.known.records }
     {
         self.session.records()
+    }
+
+    /// Takes out what the file says about where its source files can be fetched.
+    pub fn take_source_urls(&mut self, alloc: Global) -> SourceUrls
+        ensures answer { result ≡ self.old.source_urls }
+        ensures session { self.new.session ≡ self.old.session }
+        ensures image_base { self.new.image_base ≡ self.old.image_base }
+        ensures path { self.new.path ≡ self.old.path }
+    {
+        replace(&mut self.source_urls, SourceUrls::new(alloc))
     }
 
     /// Reads what is missing for answers at these addresses, relative to where the program is loaded.
@@ -89,32 +103,52 @@ pub fn open_file<R: Files + Eprint + AllocGlobal>(
     path: &str,
 ) -> Result<OpenedFile<R::File>, RunError> {
     let source = find_file(rt, status_line, options, path)?;
-    open_source(rt, source)
+    open_source(rt, options, source)
 }
 
-/// The same of a file that was found.
+/// Opens a file that was found, as [`open_file`] does.
 pub fn open_source<R: Files + Eprint + AllocGlobal>(
     rt: &R,
+    options: &Options<'_>,
     source: SourceFile<R::File>,
 ) -> Result<OpenedFile<R::File>, RunError> {
     if source.bytes.is_pdb_file() {
-        let SourceFile { file, bytes } = source;
+        let SourceFile { file, mut bytes } = source;
         let length = bytes.length();
+        let urls = source_urls(rt.alloc(), options, file.path.as_str(), &mut bytes)?;
         match PdbSession::open(rt.alloc(), bytes, length) {
-            Ok(opened) => opened_file(rt, file, opened),
+            Ok(opened) => opened_file(rt, file, urls, opened),
             Err(fault) => Err(session_error(rt.alloc(), file.path.as_str(), fault)),
         }
     } else {
         let (file, bytes) = source.read(rt.alloc())?;
         let records = read_records_file(rt, file.path.as_str(), &bytes)?;
         let opened = PdbSession::over_records(rt.alloc(), records)?;
-        opened_file(rt, file, opened)
+        opened_file(rt, file, SourceUrls::new(rt.alloc()), opened)
+    }
+}
+
+// What a PDB file says about where its source files can be fetched, if the options ask for that.
+fn source_urls<F: Read + Seek + Drop>(
+    alloc: Global,
+    options: &Options<'_>,
+    path: &str,
+    bytes: &mut FileBytes<F>,
+) -> Result<SourceUrls, RunError> {
+    if !options.source_urls {
+        return Ok(SourceUrls::new(alloc));
+    }
+    let length = bytes.length();
+    match read_source_urls(alloc, bytes, length) {
+        Ok(urls) => Ok(urls),
+        Err(fault) => Err(open_error(alloc, path, fault)),
     }
 }
 
 fn opened_file<R: Eprint + AllocGlobal, F: Read + Seek + Drop>(
     rt: &R,
     file: NamedFile,
+    source_urls: SourceUrls,
     opened: Opened<FileBytes<F>>,
 ) -> Result<OpenedFile<F>, RunError> {
     let NamedFile {
@@ -136,6 +170,7 @@ fn opened_file<R: Eprint + AllocGlobal, F: Read + Seek + Drop>(
     Ok(OpenedFile {
         path,
         session,
+        source_urls,
         image_base,
         code_id,
     })

@@ -88,6 +88,8 @@ pub struct Options<'w> {
     pub decorated: bool,
     /// How many lines of the source file are shown around the place of each frame.
     pub source_lines: u32,
+    /// Whether the URL of its source file follows the place of each frame.
+    pub source_urls: bool,
     pub digits: Digits,
     pub naming: FileNaming,
     pub base: Base,

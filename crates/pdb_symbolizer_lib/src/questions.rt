@@ -11,6 +11,7 @@ use crate::options::{FileNaming, Options};
 use crate::public_names::PublicNames;
 use pdb_answer_printer::{InputLine, InputTarget, Sort, parse_input_line};
 use pdb_session::SessionContext;
+use pdb_source_urls::SourceUrls;
 use std::io::{Read, Seek};
 
 /// What all questions of one file have in common.
@@ -21,6 +22,8 @@ pub struct Questions<'q, 'w> {
     pub file: &'q str,
     pub image_base: ImageBase,
     pub names: &'q PublicNames,
+    /// Where the source files can be fetched. It says nothing unless the options ask for URLs.
+    pub source_urls: &'q SourceUrls,
 }
 
 impl<'q, 'w> Questions<'q, 'w> {
@@ -30,17 +33,20 @@ impl<'q, 'w> Questions<'q, 'w> {
         file: &'q str,
         input: &OpenedFile<F>,
         names: &'q PublicNames,
+        source_urls: &'q SourceUrls,
     ) -> Self
         ensures options { result.options.now ≡ options.now }
         ensures file { result.file.now ≡ file.now }
         ensures image_base { result.image_base ≡ image_base_of options.now input.now.image_base }
         ensures names { result.names.now ≡ names.now }
+        ensures source_urls { result.source_urls.now ≡ source_urls.now }
     {
         Questions {
             options,
             file,
             image_base: ImageBase::new(options.base, input.image_base, options.adjust),
             names,
+            source_urls,
         }
     }
 }

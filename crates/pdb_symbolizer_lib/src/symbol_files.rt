@@ -32,7 +32,7 @@ pub fn dump_symbols<R: Files + Print + Eprint + AllocGlobal>(
     let identity = identity_of_source(rt.alloc(), &mut source)?;
     let machine = identity.and_then(|identity| identity.machine);
     let mut frames = frame_data_records(rt, &mut source, machine)?;
-    let mut input = open_source(rt, source)?;
+    let mut input = open_source(rt, options, source)?;
     input.read_all(rt)?;
     let Some(identity) = identity else {
         return Err(RunError::NoIdentity(String::from_str(rt.alloc(), input.path.as_str())?));

@@ -61,7 +61,7 @@ fn texts_of_file<R: Files + Eprint + AllocGlobal>(
     let Some(found) = find_in_folders(rt, &mut files.ids, listings, options, module)? else {
         return Ok(None);
     };
-    let mut used = open_used(rt, files, found)?;
+    let mut used = open_used(rt, options, files, found)?;
     let texts = texts_over(rt, options, module, &mut used)?;
     used.keep(rt.alloc(), files);
     Ok(Some(texts))

@@ -34,10 +34,10 @@ FILES = {
                                    "public symbols are left out: the file has no such stream"),
 }
 
-# The names of `f` and of `inner`: without types a function goes by its symbol's name, and what is inlined has none.
-# Without ids the number of the id stands for the name of what is inlined
+# The names of `f` and of `inner`: without types a function goes by its symbol's name, and an inlined function has no
+# name. Without ids an inlined function has no name either
 NAMES = {"old_types.pdb": ("f", "??"), "no_types.pdb": ("f", "??"), "empty_types.pdb": ("f", "??"),
-         "cut_ids.pdb": ("f()", "<missing type 0x1000>")}
+         "cut_ids.pdb": ("f()", "??")}
 
 
 def unread_part_cases(error, ended):

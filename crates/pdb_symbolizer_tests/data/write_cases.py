@@ -13,8 +13,8 @@ last function; device.exe and folder.exe, which are other.exe with a device and 
 and device.json, which is names.json with a device as a module's file. The folders tiers, untold, cased and packed are
 symbol stores, whose files request_cases.py writes. parts_of_other_modules.pdb is that of
 pdb_container_tests. inline_faults.py writes inline_faults.pdb, unread_parts.py the files that it names,
-overlapping_sections.py overlapping_sections.pdb, further_kinds.py further_kinds.pdb, frame_data.py frame_data.pdb, and
-arm64_program.py arm64.exe and arm64.pdb.
+overlapping_sections.py overlapping_sections.pdb, source_urls.py sources.pdb and broken_links.pdb, further_kinds.py
+further_kinds.pdb, frame_data.py frame_data.pdb, and arm64_program.py arm64.exe and arm64.pdb.
 """
 import itertools
 import json
@@ -30,6 +30,7 @@ from further_kinds import further_kind_cases
 from inline_faults import inline_fault_cases
 from overlapping_sections import overlapping_section_cases
 from request_cases import request_cases
+from source_urls import source_url_cases
 from stack_records import stack_records
 from stacks import procedure_at, stacks, with_arguments
 from symbol_file_texts import symbol_file
@@ -526,7 +527,7 @@ def api_cases(folder):
 
 def main(words):
     made = [*llvm_cases(words[0]), *habit_cases(words[0]), *name_cases(), *address_cases(), *program_cases(), *broken_cases(),
-            *module_cases(), *inline_fault_cases(error, ENDED), *unread_part_cases(error, ENDED),
+            *module_cases(), *inline_fault_cases(error, ENDED), *unread_part_cases(error, ENDED), *source_url_cases(ENDED),
             *overlapping_section_cases(ENDED), *further_kind_cases(error, ENDED),
             *frame_data_cases(error, ENDED), *arm64_cases(error, ENDED),
             *identity_cases(), *records_cases(),

@@ -12,10 +12,11 @@ returns-in_ok-queue-clause-answer g c =
     let questions = c.new-questions.result in
     let options = c.args.options.now in
     let session = c.args.input.now.session in
-    let as_given : AskOf options c.args.path.now c.args.input.now.image_base session.known.records questions
+    let as_given : AskOf options c.args.path.now c.args.urls.now c.args.input.now.image_base session.known.records questions
     = record {
       given = c.new-questions.ensures.options;
       named = c.new-questions.ensures.file;
+      urls = c.new-questions.ensures.source_urls;
       loaded = c.new-questions.ensures.image_base;
       names = λ start. ap (λ names. known_name names start) c.new-questions.ensures.names
           ∙ (c.in_ok-names.ensures.functions start
@@ -39,10 +40,11 @@ returns-else-is_empty-clause-answer g c =
     let questions = c.new-questions.result in
     let options = c.args.options.now in
     let session = c.args.input.now.session in
-    let as_given : AskOf options c.args.path.now c.args.input.now.image_base session.known.records questions
+    let as_given : AskOf options c.args.path.now c.args.urls.now c.args.input.now.image_base session.known.records questions
     = record {
       given = c.new-questions.ensures.options;
       named = c.new-questions.ensures.file;
+      urls = c.new-questions.ensures.source_urls;
       loaded = c.new-questions.ensures.image_base;
       names = λ start. ap (λ names. known_name names start) c.new-questions.ensures.names
           ∙ (c.in_ok-names.ensures.functions start
