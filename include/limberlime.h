@@ -1,6 +1,7 @@
 /* Limberlime: functions, files, lines and inlined calls at addresses of a Windows program.
  *
- * limberlime_open_pdb reads a PDB file, and limberlime_open a records file (docs/FORMAT.md), once into a handle;
+ * limberlime_open_path opens a PDB file at a path, of which it reads what questions need. limberlime_open_pdb reads all
+ * of a PDB file, and limberlime_open a records file (docs/FORMAT.md), once into a handle;
  * limberlime_open_records reads a records file that names module files. limberlime_find_frames and
  * limberlime_find_function answer an address of it as data, limberlime_find_all_frames answers many, and
  * limberlime_next_function goes over all functions. limberlime_frames_of and limberlime_names_of write a text into a
@@ -26,6 +27,17 @@
 #include <stdint.h>
 #include <stdlib.h>
 #include <string.h>
+
+#if defined(__unix__) || defined(__APPLE__)
+#include <fcntl.h>
+#include <sys/mman.h>
+#include <sys/stat.h>
+#include <unistd.h>
+#define LIMBERLIME_MAPS_FILES 1
+#else
+#include <stdio.h>
+#define LIMBERLIME_MAPS_FILES 0
+#endif
 
 /* The version of this header. The packages take theirs from it. */
 #define LIMBERLIME_VERSION_MAJOR 0
@@ -91,7 +103,9 @@ enum limberlime_refusal {
     /* The PDB file doesn't say which build it is of. */
     LIMBERLIME_NO_DEBUG_ID = -23,
     /* The caller can't read a module file that the records file names. */
-    LIMBERLIME_CANNOT_READ_MODULE = -24
+    LIMBERLIME_CANNOT_READ_MODULE = -24,
+    /* The file at the path can't be read: it doesn't exist, is a folder, or the system refuses it. */
+    LIMBERLIME_CANNOT_READ_FILE = -25
 };
 
 /* A function in whose code an address lies: the one that was called, or one whose body was inlined there. Texts are
@@ -162,6 +176,25 @@ struct limberlime_buffers {
     size_t text_capacity;
 };
 
+/* A PDB file of which only parts were read so far. */
+struct limberlime_file {
+    /* The file's bytes, and how many there are. Null if the handle has no such file, or all of it was read. */
+    uint8_t *bytes;
+    size_t length;
+    /* 1 if the bytes are mapped, and 0 if they are in memory of malloc. */
+    int is_mapped;
+    /* For each module of the file 1 if it was read, and else 0. */
+    uint8_t *flags;
+    size_t flag_capacity;
+    size_t modules;
+    /* The addresses for which parts were read. */
+    uint32_t *addresses;
+    size_t address_count;
+    size_t address_capacity;
+    /* How often a part was read. */
+    unsigned rounds;
+};
+
 /* Records that were opened, and a context that answers over them and borrows from them, both in memory of the library's
  * that the handle owns, or none. */
 struct limberlime_handle {
@@ -172,11 +205,12 @@ struct limberlime_handle {
     struct limberlime_sizes sizes;
     /* Those of the functions below alone, to write and to follow. */
     struct limberlime_buffers buffers;
+    struct limberlime_file file;
 };
 
 /* A handle that was never opened, as `struct limberlime_handle handle = LIMBERLIME_CLOSED;`. */
 #define LIMBERLIME_CLOSED \
-    { NULL, NULL, LIMBERLIME_SIZES, { NULL, NULL, 0, NULL, 0 } }
+    { NULL, NULL, LIMBERLIME_SIZES, { NULL, NULL, 0, NULL, 0 }, { NULL, 0, 0, NULL, 0, 0, NULL, 0, 0, 0 } }
 #define LIMBERLIME_SIZES \
     { sizeof(struct limberlime_handle), sizeof(struct limberlime_function_frames), sizeof(struct limberlime_frame) }
 
@@ -196,6 +230,11 @@ int64_t limberlime_frames_of_unchecked(struct limberlime_handle *handle, const u
 int64_t limberlime_names_of_unchecked(struct limberlime_handle *handle, const uint32_t *addresses,
                                       size_t address_count, uint8_t *buffer, size_t capacity, size_t *wanted);
 int64_t limberlime_open_pdb_unchecked(const uint8_t *pdb, size_t pdb_length, struct limberlime_handle *handle);
+int64_t limberlime_open_part_unchecked(const uint8_t *pdb, size_t pdb_length, const uint32_t *addresses,
+                                       size_t address_count, uint8_t *flags, size_t flag_capacity, size_t *modules,
+                                       struct limberlime_handle *handle);
+int64_t limberlime_is_read_unchecked(struct limberlime_handle *handle, uint32_t address, const uint8_t *flags,
+                                     size_t modules);
 int64_t limberlime_debug_id_unchecked(const uint8_t *pdb, size_t pdb_length, uint8_t *buffer, size_t capacity,
                                       size_t *wanted);
 int64_t limberlime_machine_unchecked(const uint8_t *pdb, size_t pdb_length);
@@ -246,6 +285,7 @@ LIMBERLIME_FUNCTION const char *limberlime_refusal_text(int64_t answer)
     case LIMBERLIME_BROKEN_STREAM: return "a broken stream";
     case LIMBERLIME_NO_DEBUG_ID: return "no debug id";
     case LIMBERLIME_CANNOT_READ_MODULE: return "cannot read a module file";
+    case LIMBERLIME_CANNOT_READ_FILE: return "cannot read the file";
     default: return "";
     }
 }
@@ -285,6 +325,22 @@ LIMBERLIME_FUNCTION int64_t limberlime_names(const uint8_t *records, size_t reco
     return limberlime_names_unchecked(records, records_length, addresses, address_count, buffer, capacity, wanted);
 }
 
+/* Frees what a handle has of a file of which only parts were read. */
+static inline void limberlime_free_file(struct limberlime_handle *handle)
+{
+    static const struct limberlime_file none = {NULL, 0, 0, NULL, 0, 0, NULL, 0, 0, 0};
+    struct limberlime_file *file = &handle->file;
+#if LIMBERLIME_MAPS_FILES
+    if (file->is_mapped)
+        munmap(file->bytes, file->length);
+#endif
+    if (!file->is_mapped)
+        free(file->bytes);
+    free(file->flags);
+    free(file->addresses);
+    *file = none;
+}
+
 /* Reads the records in the bytes of a records file into a handle, for limberlime_frames_of and limberlime_names_of.
  *
  * records, records_length: the bytes of a records file. They are not needed any more once the call has returned.
@@ -299,6 +355,7 @@ LIMBERLIME_FUNCTION int64_t limberlime_open(const uint8_t *records, size_t recor
 {
     if (records == NULL || handle == NULL)
         return LIMBERLIME_NULL_POINTER;
+    limberlime_free_file(handle);
     return limberlime_open_unchecked(records, records_length, handle);
 }
 
@@ -403,6 +460,7 @@ LIMBERLIME_FUNCTION int64_t limberlime_open_records(const uint8_t *records, size
     int64_t answer;
     if (records == NULL || module_file == NULL || handle == NULL)
         return LIMBERLIME_NULL_POINTER;
+    limberlime_free_file(handle);
     answer = limberlime_module_files_unchecked(records, records_length, &none, 0, &names_length);
     if (answer < 0 && answer != LIMBERLIME_BUFFER_TOO_SMALL) {
         limberlime_close_unchecked(handle);
@@ -433,7 +491,169 @@ LIMBERLIME_FUNCTION int64_t limberlime_open_pdb(const uint8_t *pdb, size_t pdb_l
 {
     if (pdb == NULL || handle == NULL)
         return LIMBERLIME_NULL_POINTER;
+    limberlime_free_file(handle);
     return limberlime_open_pdb_unchecked(pdb, pdb_length, handle);
+}
+
+/* How often parts of a file are read. Each time, the tables of a context are made anew, so the next time all of the file
+ * is read. */
+#define LIMBERLIME_ROUNDS 16
+
+/* Adds an address for which a part is read. Whether there was memory for it. */
+static inline int limberlime_add_address(struct limberlime_file *file, uint32_t address)
+{
+    if (file->address_count == file->address_capacity) {
+        size_t capacity = limberlime_capacity(16, file->address_count + 1);
+        uint32_t *grown = (uint32_t *)realloc(file->addresses, capacity * sizeof *grown);
+        if (grown == NULL)
+            return 0;
+        file->addresses = grown;
+        file->address_capacity = capacity;
+    }
+    file->addresses[file->address_count++] = address;
+    return 1;
+}
+
+/* Makes room for the flags of this many modules. Those that are set stay set, since a later part has all modules of the
+ * parts before. Whether there was memory. */
+static inline int limberlime_grow_flags(struct limberlime_file *file, size_t modules)
+{
+    size_t capacity = limberlime_capacity(1024, modules);
+    uint8_t *flags = (uint8_t *)calloc(capacity, 1);
+    if (flags == NULL)
+        return 0;
+    if (file->modules > 0)
+        memcpy(flags, file->flags, file->modules);
+    free(file->flags);
+    file->flags = flags;
+    file->flag_capacity = capacity;
+    return 1;
+}
+
+/* Reads what answers at the file's addresses need. Once there are no flags, all of the file was read. */
+static inline int64_t limberlime_read_part(struct limberlime_handle *handle)
+{
+    static const uint32_t none = 0;
+    struct limberlime_file *file = &handle->file;
+    size_t modules = 0;
+    int64_t answer = LIMBERLIME_BUFFER_TOO_SMALL;
+    while (answer == LIMBERLIME_BUFFER_TOO_SMALL) {
+        if (file->flag_capacity <= modules && !limberlime_grow_flags(file, modules + 1))
+            return LIMBERLIME_OUT_OF_MEMORY;
+        answer = limberlime_open_part_unchecked(file->bytes, file->length,
+                                                file->address_count == 0 ? &none : file->addresses,
+                                                file->address_count, file->flags, file->flag_capacity, &modules, handle);
+    }
+    if (answer < 0)
+        return answer;
+    file->modules = modules;
+    if (modules == 0)
+        limberlime_free_file(handle);
+    return 0;
+}
+
+/* Reads all of a file of which only parts were read. A refusal leaves the handle as it was. */
+static inline int64_t limberlime_read_whole(struct limberlime_handle *handle)
+{
+    struct limberlime_handle whole = LIMBERLIME_CLOSED;
+    int64_t answer;
+    if (handle->file.bytes == NULL)
+        return 0;
+    answer = limberlime_open_pdb_unchecked(handle->file.bytes, handle->file.length, &whole);
+    if (answer != 0)
+        return answer;
+    limberlime_free_file(handle);
+    limberlime_close_unchecked(handle);
+    handle->records = whole.records;
+    handle->context = whole.context;
+    return 0;
+}
+
+/* Reads what is missing for answers at these addresses, of a file of which only parts were read. */
+static inline int64_t limberlime_read_for(struct limberlime_handle *handle, const uint32_t *addresses,
+                                          size_t address_count)
+{
+    struct limberlime_file *file = &handle->file;
+    size_t before = file->address_count;
+    int64_t answer;
+    if (file->bytes == NULL)
+        return 0;
+    for (size_t i = 0; i < address_count; i++) {
+        answer = limberlime_is_read_unchecked(handle, addresses[i], file->flags, file->modules);
+        if (answer < 0)
+            return answer;
+        if (answer == 0 && !limberlime_add_address(file, addresses[i]))
+            return LIMBERLIME_OUT_OF_MEMORY;
+    }
+    if (file->address_count == before)
+        return 0;
+    answer = ++file->rounds > LIMBERLIME_ROUNDS ? limberlime_read_whole(handle) : limberlime_read_part(handle);
+    if (answer < 0)
+        file->address_count = before;
+    return answer;
+}
+
+/* The bytes of the file at a path, mapped if the system can do that. Whether it can be read. */
+static inline int limberlime_map(const char *path, struct limberlime_file *file)
+{
+#if LIMBERLIME_MAPS_FILES
+    struct stat status;
+    int descriptor = open(path, O_RDONLY | O_NONBLOCK);
+    void *bytes = MAP_FAILED;
+    if (descriptor < 0)
+        return 0;
+    if (fstat(descriptor, &status) == 0 && S_ISREG(status.st_mode) && status.st_size > 0)
+        bytes = mmap(NULL, (size_t)status.st_size, PROT_READ, MAP_PRIVATE, descriptor, 0);
+    close(descriptor);
+    if (bytes == MAP_FAILED)
+        return 0;
+    file->bytes = (uint8_t *)bytes;
+    file->length = (size_t)status.st_size;
+    file->is_mapped = 1;
+    return 1;
+#else
+    FILE *stream = fopen(path, "rb");
+    size_t capacity = (size_t)1 << 20, read = 0;
+    if (stream == NULL)
+        return 0;
+    do {
+        uint8_t *grown = (uint8_t *)realloc(file->bytes, capacity);
+        if (grown == NULL)
+            break;
+        file->bytes = grown;
+        read = fread(file->bytes + file->length, 1, capacity - file->length, stream);
+        file->length += read;
+        capacity *= 2;
+    } while (read > 0);
+    return fclose(stream) == 0 && file->length > 0;
+#endif
+}
+
+/* Opens the PDB file at a path, for all calls with a handle. Of the file only what a question needs is read, when it is
+ * asked for; limberlime_next_function, limberlime_frames_of and limberlime_names_of read all of it.
+ *
+ * path: of a file that stays as it is until the handle is closed. It may be removed, or replaced by another one that is
+ *     renamed to its path. If it is written or cut meanwhile, answers are wrong, or the process ends by SIGBUS.
+ * handle: what it held before is given back first.
+ *
+ * What of the file is broken is left out, as pdb_symbolizer leaves it out, and all else is answered. Answers 0, or a
+ * number of enum limberlime_refusal, and then the handle is closed, but with LIMBERLIME_NULL_POINTER, which leaves it as
+ * it was. LIMBERLIME_CANNOT_READ_FILE is for a file that can't be read, or has no bytes.
+ */
+LIMBERLIME_FUNCTION int64_t limberlime_open_path(const char *path, struct limberlime_handle *handle)
+{
+    int64_t answer = LIMBERLIME_CANNOT_READ_FILE;
+    if (path == NULL || handle == NULL)
+        return LIMBERLIME_NULL_POINTER;
+    limberlime_free_file(handle);
+    limberlime_close_unchecked(handle);
+    if (limberlime_map(path, &handle->file))
+        answer = limberlime_read_part(handle);
+    if (answer != 0) {
+        limberlime_free_file(handle);
+        limberlime_close_unchecked(handle);
+    }
+    return answer;
 }
 
 /* Writes the debug id of a PDB file, by which a program, a symbol server and a crash report name it: 32 digits and
@@ -544,9 +764,11 @@ static inline int64_t limberlime_find(limberlime_find_call call, struct limberli
 LIMBERLIME_FUNCTION int64_t limberlime_find_frames(struct limberlime_handle *handle, uint32_t address,
                                                    struct limberlime_function_frames *frames)
 {
+    int64_t answer;
     if (handle == NULL || frames == NULL)
         return LIMBERLIME_NULL_POINTER;
-    return limberlime_find(limberlime_find_frames_unchecked, handle, address, frames);
+    answer = limberlime_read_for(handle, &address, 1);
+    return answer != 0 ? answer : limberlime_find(limberlime_find_frames_unchecked, handle, address, frames);
 }
 
 /* Is given the answer of limberlime_find_frames to an address, and the frames where it is 0, which stay until it
@@ -569,6 +791,8 @@ LIMBERLIME_FUNCTION int64_t limberlime_find_all_frames(struct limberlime_handle 
     int goes_on = 1;
     if (handle == NULL || addresses == NULL || each == NULL)
         return LIMBERLIME_NULL_POINTER;
+    /* Where this is refused, so is the question for the first address that lacks something. */
+    (void)limberlime_read_for(handle, addresses, address_count);
     while (goes_on && asked < address_count) {
         struct limberlime_function_frames frames;
         uint32_t address = addresses[asked++];
@@ -584,9 +808,11 @@ LIMBERLIME_FUNCTION int64_t limberlime_find_all_frames(struct limberlime_handle 
 LIMBERLIME_FUNCTION int64_t limberlime_find_function(struct limberlime_handle *handle, uint32_t address,
                                                      struct limberlime_function_frames *frames)
 {
+    int64_t answer;
     if (handle == NULL || frames == NULL)
         return LIMBERLIME_NULL_POINTER;
-    return limberlime_find(limberlime_find_function_unchecked, handle, address, frames);
+    answer = limberlime_read_for(handle, &address, 1);
+    return answer != 0 ? answer : limberlime_find(limberlime_find_function_unchecked, handle, address, frames);
 }
 
 /* Finds the next of all functions by where they start, as limberlime_find_function has it.
@@ -600,8 +826,12 @@ LIMBERLIME_FUNCTION int64_t limberlime_next_function(struct limberlime_handle *h
                                                      struct limberlime_function_frames *frames)
 {
     static const struct limberlime_function_frames none = {0, NULL, 0, 0, 0};
+    int64_t read;
     if (handle == NULL || next == NULL || frames == NULL)
         return LIMBERLIME_NULL_POINTER;
+    read = limberlime_read_whole(handle);
+    if (read != 0)
+        return read;
     while (*next <= UINT32_MAX) {
         uint32_t start;
         int64_t answer = limberlime_find(limberlime_next_start_unchecked, handle, (uint32_t)*next, frames);
@@ -626,8 +856,12 @@ LIMBERLIME_FUNCTION int64_t limberlime_next_function(struct limberlime_handle *h
 LIMBERLIME_FUNCTION int64_t limberlime_frames_of(struct limberlime_handle *handle, const uint32_t *addresses,
                                                  size_t address_count, uint8_t *buffer, size_t capacity, size_t *wanted)
 {
+    int64_t read;
     if (handle == NULL || addresses == NULL || buffer == NULL || wanted == NULL)
         return LIMBERLIME_NULL_POINTER;
+    read = limberlime_read_whole(handle);
+    if (read != 0)
+        return read;
     return limberlime_frames_of_unchecked(handle, addresses, address_count, buffer, capacity, wanted);
 }
 
@@ -637,8 +871,12 @@ LIMBERLIME_FUNCTION int64_t limberlime_frames_of(struct limberlime_handle *handl
 LIMBERLIME_FUNCTION int64_t limberlime_names_of(struct limberlime_handle *handle, const uint32_t *addresses,
                                                 size_t address_count, uint8_t *buffer, size_t capacity, size_t *wanted)
 {
+    int64_t read;
     if (handle == NULL || addresses == NULL || buffer == NULL || wanted == NULL)
         return LIMBERLIME_NULL_POINTER;
+    read = limberlime_read_whole(handle);
+    if (read != 0)
+        return read;
     return limberlime_names_of_unchecked(handle, addresses, address_count, buffer, capacity, wanted);
 }
 
@@ -649,6 +887,7 @@ LIMBERLIME_FUNCTION void limberlime_close(struct limberlime_handle *handle)
 {
     if (handle == NULL)
         return;
+    limberlime_free_file(handle);
     limberlime_close_unchecked(handle);
     free(handle->buffers.rows);
     free(handle->buffers.frames);
