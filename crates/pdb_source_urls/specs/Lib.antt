@@ -1,0 +1,2 @@
+pub mod SourceLinks
+pub mod LinkUrls
