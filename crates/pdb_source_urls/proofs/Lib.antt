@@ -1,2 +1,3 @@
 pub mod JsonLemmas
+mod LinkExamples
 pub mod LinkLemmas
