@@ -1,3 +1,3 @@
+pub mod FileNameLemmas
 pub mod JsonLemmas
 mod LinkExamples
-pub mod LinkLemmas

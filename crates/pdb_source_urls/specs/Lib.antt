@@ -1,2 +1,3 @@
+pub mod FileNames
 pub mod SourceLinks
 pub mod LinkUrls

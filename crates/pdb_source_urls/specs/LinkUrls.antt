@@ -1,21 +1,15 @@
 -- The URL of a source file by Source Link.
-use Rattle.std.specs.Prelude.{ℕ, ◌/◌, ◌%◌, ◌==◌, ◌&&◌, ◌||◌, not, Bool, true, false, nat_lt, List, [], ◌∷◌, ◌++◌, codes}
+use Rattle.std.specs.Prelude.{ℕ, ◌/◌, ◌%◌, ◌==◌, ◌&&◌, ◌||◌, not, Bool, true, nat_lt, List, [], ◌∷◌, ◌++◌, codes}
 use Rattle.std.specs.Prelude.{drop, length, Option, Some, None, option_map, if◌then◌else◌}
-use Rattle.std.specs.Char.{is_ascii_alphanumeric, to_ascii_lowercase}
+use Rattle.std.specs.Char.{is_ascii_alphanumeric}
 use Rattle.std.specs.Fmt.{digits}
 use Rattle.std.specs.List.{after_first, before_first, flat_map}
+use Rattle.pdb_source_urls.specs.FileNames.{alike, begins_with}
 use Rattle.pdb_source_urls.specs.SourceLinks.{Link, is_star}
-
--- whether a name begins with a path; letters from A to Z count as those from a to z
-abbrev pub begins_with : List ℕ → List ℕ → Bool
-begins_with name [] = true
-begins_with [] (byte ∷ path) = false
-begins_with (letter ∷ name) (byte ∷ path) =
-    (to_ascii_lowercase letter == to_ascii_lowercase byte) && begins_with name path
 
 -- whether an entry fits a file: the name is its path, or begins with it if a star follows
 abbrev pub fits : List ℕ → Link → Bool
-fits file link = (link.any_rest || (length file == length link.path)) && begins_with file link.path
+fits file link = if link.any_rest then begins_with file link.path else alike file link.path
 
 -- whether an entry that fits counts before the best one so far: its path is longer, or as long and without a star where
 -- the other has one

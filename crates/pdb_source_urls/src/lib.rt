@@ -5,5 +5,6 @@
 //! are.
 #![tactic(auto)]
 
+mod file_names;
 mod link_urls;
 mod source_links;

@@ -2,11 +2,13 @@
 
 ghost use Rattle.std.specs.Prelude.{◌≡◌, ◌≤◌, ◌++◌, IfOk, OnOk, drop, length, map, option_map, string_bytes};
 ghost use Rattle.std.specs.List.{flat_map};
-ghost use Rattle.pdb_source_urls.specs.LinkUrls.{begins_with, best_link, escaped, escaped_byte, fits, is_better};
+ghost use Rattle.pdb_source_urls.specs.LinkUrls.{best_link, escaped, escaped_byte, fits, is_better};
 ghost use Rattle.pdb_source_urls.specs.LinkUrls.{is_plain, link_url, url_by_link};
 ghost use Rattle.pdb_source_urls.specs.SourceLinks.{link_seen};
 
+use crate::file_names::{alike, begins_with};
 use crate::source_links::{SourceLink, after_star, before_star};
+use pdb_msf::bytes_from;
 use std::alloc::{AllocError, Global};
 
 /// The URL of a file by the entry that fits it best, if any does.
@@ -40,8 +42,11 @@ fn best_link<'l>(links: &'l [SourceLink], file: &str) -> Option<&'l SourceLink>
 fn fits(link: &SourceLink, file: &str) -> bool
     ensures { result ≡ fits file.now (link_seen link.now) }
 {
-    (link.any_rest || file.len() == link.path.len())
-        && begins_with(file.as_bytes(), link.path.as_bytes())
+    if link.any_rest {
+        begins_with(file.as_bytes(), link.path.as_bytes())
+    } else {
+        alike(file.as_bytes(), link.path.as_bytes())
+    }
 }
 
 // Whether an entry that fits counts before the best one so far.
@@ -57,22 +62,6 @@ fn is_better(best: Option<&SourceLink>, link: &SourceLink) -> bool
     }
 }
 
-// Whether a name begins with a path; letters from A to Z count as those from a to z.
-#[tactic(auto, using(crate::proofs::LinkLemmas::short_name))]
-fn begins_with(name: &[u8], path: &[u8]) -> bool
-    ensures { result ≡ begins_with name.now path.now }
-{
-    if name.len() < path.len() {
-        return false;
-    }
-    for (at, byte) in path.iter().enumerate() {
-        if name[at].to_ascii_lowercase() != byte.to_ascii_lowercase() {
-            return false;
-        }
-    }
-    true
-}
-
 // The URL that an entry gives a file that it fits.
 fn url_by_link(alloc: Global, link: &SourceLink, file: &str) -> Result<String, AllocError>
     ensures { IfOk result (λ url. string_bytes url ≡ url_by_link file.now (link_seen link.now)) }
@@ -85,16 +74,6 @@ fn url_by_link(alloc: Global, link: &SourceLink, file: &str) -> Result<String, A
     push_escaped(&mut url, bytes_from(file.as_bytes(), link.path.len()))?;
     url.push_str(after_star(&link.url))?;
     Ok(url)
-}
-
-// The bytes from this one on.
-fn bytes_from(bytes: &[u8], start: usize) -> &[u8]
-    ensures { result.now ≡ drop start bytes.now }
-{
-    if bytes.len() < start {
-        return &[];
-    }
-    &bytes[start..]
 }
 
 // Appends the rest of a file's name, as it stands in a URL.
