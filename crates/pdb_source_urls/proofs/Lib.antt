@@ -1,3 +1,4 @@
 pub mod FileNameLemmas
 pub mod JsonLemmas
 mod LinkExamples
+pub mod ServerLemmas

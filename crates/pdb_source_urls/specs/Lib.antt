@@ -1,3 +1,4 @@
 pub mod FileNames
 pub mod SourceLinks
 pub mod LinkUrls
+pub mod SourceServer

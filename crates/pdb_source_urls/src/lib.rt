@@ -8,3 +8,4 @@
 mod file_names;
 mod link_urls;
 mod source_links;
+mod source_server;
