@@ -2,3 +2,5 @@ pub mod FileNames
 pub mod SourceLinks
 pub mod LinkUrls
 pub mod SourceServer
+pub mod NamedStreams
+pub mod SourceUrls

@@ -7,5 +7,9 @@
 
 mod file_names;
 mod link_urls;
+mod named_streams;
 mod source_links;
 mod source_server;
+mod source_urls;
+
+pub use source_urls::{SourceUrls, read_source_urls};
