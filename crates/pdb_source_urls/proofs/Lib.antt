@@ -1,0 +1,5 @@
+pub mod FileNameLemmas
+pub mod JsonLemmas
+mod LinkExamples
+pub mod NumberedLemmas
+pub mod ServerLemmas

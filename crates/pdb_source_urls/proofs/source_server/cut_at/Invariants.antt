@@ -1,0 +1,7 @@
+-- The first such byte stands where it does in what is left, after the bytes so far.
+use Rattle.std.proofs.Common.{◌≡◌, ◌+◌, drop, option_map}
+use Rattle.pdb_source_urls.specs.SourceServer.{place_of}
+use Rattle.pdb_source_urls.proofs.source_server.cut_at.Given as goal
+
+abbrev pub invariant-loop-place : goal.invariant-loop-place
+invariant-loop-place l = place_of l.stop l.text ≡ option_map (λ n. n + l.place) (place_of l.stop (drop l.place l.text))

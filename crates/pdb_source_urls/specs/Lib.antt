@@ -1,0 +1,6 @@
+pub mod FileNames
+pub mod SourceLinks
+pub mod LinkUrls
+pub mod SourceServer
+pub mod NamedStreams
+pub mod SourceUrls

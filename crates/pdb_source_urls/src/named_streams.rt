@@ -1,0 +1,145 @@
+//! The streams of a PDB file that say where its source files can be fetched.
+
+ghost use Rattle.std.specs.Prelude.{◌≡◌, ◌≤◌, IfErr, IfOk, map, option_map, string_bytes};
+ghost use Rattle.pdb_msf.specs.Msf.{stream_of};
+ghost use Rattle.pdb_msf.specs.MsfLayout.{IfFile, with_bytes};
+ghost use Rattle.pdb_source_urls.specs.NamedStreams.{AddsStream, links_of, named_bytes, numbered_name};
+ghost use Rattle.pdb_source_urls.specs.SourceLinks.{link_seen};
+
+use crate::source_links::{SourceLink, with_text};
+use pdb_container::parts::{INFO, InfoStream};
+use pdb_msf::{MsfLayout, Source, SourceError, StreamSubset};
+use std::alloc::{AllocError, Global};
+
+/// The name of the Source Link stream that has no number.
+const PLAIN: [u8; 11] = *b"sourcelink\0";
+
+/// The number that is one more than that of the last Source Link stream that is read.
+const NUMBERS_END: usize = 64;
+
+/// The entries of a file's Source Link streams that count.
+pub(crate) fn read_links<S: Source>(
+    alloc: Global,
+    layout: &MsfLayout,
+    source: &mut S,
+) -> Result<Vec<SourceLink>, SourceError>
+    ensures answer { IfOk result (λ links. IfFile (S.bytes source.old) layout.now.file_length (λ file.
+        map link_seen links.items ≡ links_of (with_bytes file layout.now))) }
+    ensures refused { IfErr result (λ fault. fault ≡ SourceError.Unreadable
+        → S.refuses_from source.old ≤ layout.now.file_length) }
+    ensures inputs { S.bytes source.new ≡ S.bytes source.old }
+    ensures refusals { S.refuses_from source.new ≡ S.refuses_from source.old }
+{
+    let mut excerpt = StreamSubset::new(alloc, layout)?;
+    excerpt.add(alloc, layout, source, INFO)?;
+    let container = excerpt.container(alloc)?;
+    match InfoStream::read(alloc, &container) {
+        Ok(info) => read_named_links(alloc, layout, source, &info),
+        Err(_) => Err(SourceError::OutOfMemory),
+    }
+}
+
+// The same, by the info stream.
+fn read_named_links<S: Source>(
+    alloc: Global,
+    layout: &MsfLayout,
+    source: &mut S,
+    info: &InfoStream<'_>,
+) -> Result<Vec<SourceLink>, SourceError>
+    ensures answer { IfOk result (λ links. IfFile (S.bytes source.old) layout.now.file_length (λ file.
+        stream_of (with_bytes file layout.now) 1 ≡ info.now
+        → map link_seen links.items ≡ links_of (with_bytes file layout.now))) }
+    ensures refused { IfErr result (λ fault. fault ≡ SourceError.Unreadable
+        → S.refuses_from source.old ≤ layout.now.file_length) }
+    ensures inputs { S.bytes source.new ≡ S.bytes source.old }
+    ensures refusals { S.refuses_from source.new ≡ S.refuses_from source.old }
+{
+    let mut links = Vec::new(alloc);
+    add_named(&mut links, layout, source, info, &PLAIN)?;
+    for number in 1..NUMBERS_END {
+        if !add_numbered(&mut links, layout, source, info, number)? {
+            break;
+        }
+    }
+    Ok(links)
+}
+
+// Adds the entries of the Source Link stream of a number. The answer is whether there is such a stream.
+fn add_numbered<S: Source>(
+    links: &mut Vec<SourceLink>,
+    layout: &MsfLayout,
+    source: &mut S,
+    info: &InfoStream<'_>,
+    number: usize,
+) -> Result<bool, SourceError>
+    ensures answer { IfOk result (λ there. IfFile (S.bytes source.old) layout.now.file_length (λ file.
+        stream_of (with_bytes file layout.now) 1 ≡ info.now
+        → AddsStream there (named_bytes (numbered_name number) (with_bytes file layout.now))
+        (map link_seen links.old.items) (map link_seen links.new.items))) }
+    ensures refused { IfErr result (λ fault. fault ≡ SourceError.Unreadable
+        → S.refuses_from source.old ≤ layout.now.file_length) }
+    ensures inputs { S.bytes source.new ≡ S.bytes source.old }
+    ensures refusals { S.refuses_from source.new ≡ S.refuses_from source.old }
+{
+    let name = numbered_name(*links.allocator(), number)?;
+    add_named(links, layout, source, info, name.as_bytes())
+}
+
+// Adds the entries of the stream of this name, which has its zero after it. The answer is whether there is such a stream.
+fn add_named<S: Source>(
+    links: &mut Vec<SourceLink>,
+    layout: &MsfLayout,
+    source: &mut S,
+    info: &InfoStream<'_>,
+    name: &[u8],
+) -> Result<bool, SourceError>
+    ensures answer { IfOk result (λ there. IfFile (S.bytes source.old) layout.now.file_length (λ file.
+        stream_of (with_bytes file layout.now) 1 ≡ info.now
+        → AddsStream there (named_bytes name.now (with_bytes file layout.now))
+        (map link_seen links.old.items) (map link_seen links.new.items))) }
+    ensures refused { IfErr result (λ fault. fault ≡ SourceError.Unreadable
+        → S.refuses_from source.old ≤ layout.now.file_length) }
+    ensures inputs { S.bytes source.new ≡ S.bytes source.old }
+    ensures refusals { S.refuses_from source.new ≡ S.refuses_from source.old }
+{
+    match load_named(*links.allocator(), layout, source, info, name)? {
+        None => Ok(false),
+        Some(stream) => {
+            with_text(links, &stream)?;
+            Ok(true)
+        }
+    }
+}
+
+// The name of a Source Link stream that has a number, with the zero after it.
+fn numbered_name(alloc: Global, number: usize) -> Result<String, AllocError>
+    ensures { IfOk result (λ name. string_bytes name ≡ numbered_name number) }
+{
+    format!(in alloc; "sourcelink${number}\0")
+}
+
+// The bytes of the stream of this name, which has its zero after it, if there is one. A stream that can't be read has none.
+#[tactic(auto, unfolding(crate::specs::NamedStreams::named_bytes))]
+fn load_named<S: Source>(
+    alloc: Global,
+    layout: &MsfLayout,
+    source: &mut S,
+    info: &InfoStream<'_>,
+    name: &[u8],
+) -> Result<Option<Vec<u8>>, SourceError>
+    ensures answer { IfOk result (λ stream. IfFile (S.bytes source.old) layout.now.file_length (λ file.
+        stream_of (with_bytes file layout.now) 1 ≡ info.now
+        → option_map (λ bytes. bytes.items) stream ≡ named_bytes name.now (with_bytes file layout.now))) }
+    ensures refused { IfErr result (λ fault. fault ≡ SourceError.Unreadable
+        → S.refuses_from source.old ≤ layout.now.file_length) }
+    ensures inputs { S.bytes source.new ≡ S.bytes source.old }
+    ensures refusals { S.refuses_from source.new ≡ S.refuses_from source.old }
+{
+    let Ok(number) = info.named_stream(name) else {
+        return Ok(None);
+    };
+    match layout.load(alloc, source, number)? {
+        Ok(stream) => Ok(Some(stream)),
+        Err(_) => Ok(Some(Vec::new(alloc))),
+    }
+}

@@ -1,0 +1,64 @@
+//! Where the source files of a program can be fetched, as its PDB file says it.
+
+ghost use Rattle.std.specs.Prelude.{◌≡◌, ◌≤◌, IfErr, IfOk, option_map, string_bytes};
+ghost use Rattle.pdb_container.specs.DebugRecords.{of_file};
+ghost use Rattle.pdb_msf.specs.MsfLayout.{IfFile, Reads};
+ghost use Rattle.pdb_source_urls.specs.SourceUrls.{is_empty, url_of, urls_of};
+
+use crate::link_urls::link_url;
+use crate::named_streams::read_links;
+use crate::source_links::SourceLink;
+use pdb_msf::{MsfLayout, OpenError, Source};
+use std::alloc::{AllocError, Global};
+use std::marker::Model;
+
+/// What a PDB file says of where its source files can be fetched.
+#[derive(Drop)]
+pub struct SourceUrls {
+    links: Vec<SourceLink>,
+}
+
+impl Model for SourceUrls {
+    ghost use Rattle.std.specs.Prelude.{map};
+    ghost use Rattle.pdb_source_urls.specs.SourceLinks.{link_seen};
+    ghost use Rattle.pdb_source_urls.specs.SourceUrls.{Urls};
+
+    ghost Value = { Urls };
+
+    ghost view = { λ urls. record { links = map link_seen urls.links.items } };
+}
+
+/// What a PDB file of this length says of where its source files can be fetched. A stream that is broken says nothing.
+/// The errors are those of [`MsfLayout::read`](pdb_msf::MsfLayout::read).
+pub fn read_source_urls<S: Source>(
+    alloc: Global,
+    source: &mut S,
+    file_length: usize,
+) -> Result<SourceUrls, OpenError>
+    ensures answer { IfFile (S.bytes source.old) file_length (λ file.
+        Reads (λ urls. urls) result (of_file urls_of file)) }
+    ensures refused { IfErr result (λ fault. fault ≡ OpenError.Unreadable → S.refuses_from source.old ≤ file_length) }
+    ensures inputs { S.bytes source.new ≡ S.bytes source.old }
+    ensures refusals { S.refuses_from source.new ≡ S.refuses_from source.old }
+{
+    let layout = MsfLayout::read(alloc, source, file_length)?;
+    let links = read_links(alloc, &layout, source)?;
+    Ok(SourceUrls { links })
+}
+
+impl SourceUrls {
+    /// Whether the file says nothing of where its sources are.
+    pub fn is_empty(&self) -> bool
+        ensures { result ≡ is_empty self.now }
+    {
+        self.links.is_empty()
+    }
+
+    /// The URL of a source file, whose name is as it stands in the PDB file. There is none if the file doesn't say where
+    /// this source file is.
+    pub fn url_of(&self, alloc: Global, file: &str) -> Result<Option<String>, AllocError>
+        ensures { IfOk result (λ url. option_map string_bytes url ≡ url_of self.now file.now) }
+    {
+        link_url(alloc, &self.links, file)
+    }
+}
