@@ -6,7 +6,7 @@ use Rattle.pdb_errors.specs.declared.error.Error.{Error}
 use Rattle.pdb_types.specs.declared.flags.TypeFormatterFlags.{TypeFormatterFlags}
 use Rattle.pdb_frames.specs.Frame.{FrameInfo, FramesInfo}
 use Rattle.pdb_frames.specs.SourceFiles.{known_text}
-use Rattle.pdb_source_urls.specs.SourceUrls.{SourceUrls, url_of}
+use Rattle.pdb_source_urls.specs.SourceUrls.{Urls, url_of}
 use Rattle.pdb_msf.specs.MsfLayout.{IfFile}
 use Rattle.pdb_container.specs.PdbFile.{records_of}
 use Rattle.pdb_repairs.specs.Repaired.{repaired}
@@ -106,11 +106,11 @@ AreNamedFrames questions right address named = (found : Option FramesInfo)
     × ((named ≡ option_map (public_named questions.names.now) found) × AreFrames right address found)
 
 -- the URL of a frame's source file, as a PDB file says it; empty if it says none
-abbrev pub frame_url : SourceUrls → FrameInfo → List ℕ
+abbrev pub frame_url : Urls → FrameInfo → List ℕ
 frame_url urls frame = unwrap_or (option_and_then (url_of urls) (known_text frame.file)) []
 
 -- what is printed of the source files of frames has their URLs
-abbrev pub HaveUrls : SourceUrls → List FrameInfo → List FrameSource → Type 0
+abbrev pub HaveUrls : Urls → List FrameInfo → List FrameSource → Type 0
 HaveUrls urls frames sources = map (λ source. source.url) sources ≡ map (frame_url urls) frames
 
 -- a text is the answer of an address of code: the frames that are right there, each with the URL of its source file and

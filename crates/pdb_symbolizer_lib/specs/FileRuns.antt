@@ -11,12 +11,12 @@ use Rattle.pdb_symbolizer_lib.specs.ImageBases.{image_base_of}
 use Rattle.pdb_symbolizer_lib.specs.PublicNames.{function_name, known_name}
 use Rattle.pdb_symbolizer_lib.specs.declared.options.Options.{Options}
 use Rattle.pdb_symbolizer_lib.specs.declared.questions.Questions.{Questions}
-use Rattle.pdb_source_urls.specs.SourceUrls.{SourceUrls}
+use Rattle.pdb_source_urls.specs.SourceUrls.{Urls}
 
 -- questions are asked of a file as the options say: of the file as it was named, with these URLs of source files, with
 -- addresses relative to where its program is loaded, and with the public names of these records where functions go by
 -- them
-pub record AskOf (options : Options) (path : List ℕ) (urls : SourceUrls) (base : Option ℕ) (records : Records)
+pub record AskOf (options : Options) (path : List ℕ) (urls : Urls) (base : Option ℕ) (records : Records)
     (questions : Questions) : Type 0 where
   pub given : questions.options.now ≡ options
   pub named : questions.file.now ≡ path
@@ -40,7 +40,7 @@ AnswersAsked (word ∷ words) questions session input result old new =
     (map (λ word. word.now) (word ∷ words)) result old new
 
 -- a run over a file answers what is asked of it as the options say; or it ends before, and prints nothing
-abbrev pub RunsOver : {A E : Type 0} → Options → List ℕ → SourceUrls → Option ℕ → SessionFile → Option (List ℕ)
+abbrev pub RunsOver : {A E : Type 0} → Options → List ℕ → Urls → Option ℕ → SessionFile → Option (List ℕ)
     → Result A E → Option (List ℕ) → Option (List ℕ) → Type 0
 RunsOver options path urls base session input result old new =
     ((questions : Questions) × (AskOf options path urls base session.known.records questions
