@@ -1,3 +1,4 @@
+pub mod ExpansionLemmas
 pub mod FileNameLemmas
 pub mod JsonLemmas
 mod LinkExamples

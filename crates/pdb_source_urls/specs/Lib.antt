@@ -4,3 +4,4 @@ pub mod LinkUrls
 pub mod SourceServer
 pub mod NamedStreams
 pub mod SourceUrls
+pub mod Expansion

@@ -5,6 +5,7 @@
 //! are.
 #![tactic(auto)]
 
+mod expansion;
 mod file_names;
 mod link_urls;
 mod named_streams;
