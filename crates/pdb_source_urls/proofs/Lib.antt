@@ -4,3 +4,4 @@ pub mod JsonLemmas
 mod LinkExamples
 pub mod NumberedLemmas
 pub mod ServerLemmas
+pub mod TextLemmas

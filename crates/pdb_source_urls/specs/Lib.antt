@@ -5,3 +5,4 @@ pub mod SourceServer
 pub mod NamedStreams
 pub mod SourceUrls
 pub mod Expansion
+pub mod ServerUrls

@@ -15,7 +15,7 @@ use std::alloc::{AllocError, AllocFailed, Global};
 const MOST_USES: usize = 1000;
 
 /// How many bytes a text has at most.
-const MOST_TEXT: usize = 4096;
+pub(crate) const MOST_TEXT: usize = 4096;
 
 /// What values are expanded by.
 #[derive(Clone, Copy)]
@@ -43,7 +43,7 @@ struct Part<'t> {
 /// A function of a text.
 #[derive(Clone, Copy)]
 enum Function {
-    /// The value of the variable of this name.
+    //// The value of the variable of this name, where values may nest so deeply, after so many variables were used.
     ValueOf,
     /// The text with backslashes for slashes.
     Backslashes,
@@ -184,9 +184,9 @@ fn call(
     }
 }
 
-// The value of the variable of this name.
+/// The value of the variable of this name, where values may nest so deeply, after so many variables were used.
 #[cycle(expansion)]
-fn value_of(
+pub(crate) fn value_of(
     alloc: Global,
     sources: Sources<'_>,
     depth: usize,
@@ -290,8 +290,8 @@ fn closed(text: &[u8]) -> Option<(&[u8], &[u8])>
     None
 }
 
-// The value of the variable of this name, as it is defined last.
-fn variable_value<'v>(name: &[u8], variables: &'v [Variable]) -> Option<&'v [u8]>
+/// The value of the variable of this name, as it is defined last.
+pub(crate) fn variable_value<'v>(name: &[u8], variables: &'v [Variable]) -> Option<&'v [u8]>
     ensures { option_map (λ value. value.now) result ≡ variable_value name.now (map definition_seen variables.now) }
 {
     let mut found: Option<&[u8]> = None;
