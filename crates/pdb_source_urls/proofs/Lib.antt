@@ -3,5 +3,6 @@ pub mod FileNameLemmas
 pub mod JsonLemmas
 mod LinkExamples
 pub mod NumberedLemmas
+mod ServerExamples
 pub mod ServerLemmas
 pub mod TextLemmas
