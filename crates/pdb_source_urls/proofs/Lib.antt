@@ -1,5 +1,8 @@
+pub mod ExpansionLemmas
 pub mod FileNameLemmas
 pub mod JsonLemmas
 mod LinkExamples
 pub mod NumberedLemmas
+mod ServerExamples
 pub mod ServerLemmas
+pub mod TextLemmas

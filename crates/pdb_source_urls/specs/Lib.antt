@@ -4,3 +4,5 @@ pub mod LinkUrls
 pub mod SourceServer
 pub mod NamedStreams
 pub mod SourceUrls
+pub mod Expansion
+pub mod ServerUrls

@@ -1,11 +1,12 @@
 -- The streams of a PDB file that say where its source files can be fetched.
 use Rattle.std.specs.Prelude.{◌≡◌, ℕ, zero, suc, ◌+◌, Bool, List, [], ◌∷◌, ◌++◌, codes}
-use Rattle.std.specs.Prelude.{is_some, Option, Some, None, Result, Ok, Err}
+use Rattle.std.specs.Prelude.{is_some, unwrap_or, Option, Some, None, Result, Ok, Err}
 use Rattle.std.specs.Fmt.{decimal}
 use Rattle.pdb_records.specs.declared.error.StreamError.{StreamError}
 use Rattle.pdb_msf.specs.Msf.{Msf, stream_of}
 use Rattle.pdb_container.specs.Info.{named_stream}
 use Rattle.pdb_source_urls.specs.SourceLinks.{Link, with_text}
+use Rattle.pdb_source_urls.specs.SourceServer.{Server, server_of}
 
 -- the bytes of a stream, or none where it can't be read
 abbrev pub bytes_or_none : Result (List ℕ) StreamError → List ℕ
@@ -53,3 +54,11 @@ with_numbered msf (suc more) number links =
 -- the entries of a file: those of the stream without a number, and of the streams with the numbers from 1 to 63
 unfoldable pub links_of : Msf → List Link
 links_of msf = with_numbered msf 63 1 (with_stream (named_bytes plain_name msf) [])
+
+-- the name of the stream of source server data
+abbrev pub server_name : List ℕ
+server_name = codes "srcsrv" ++ 0 ∷ []
+
+-- the source server data of a file
+unfoldable pub server_in : Msf → Server
+server_in msf = server_of (unwrap_or (named_bytes server_name msf) [])

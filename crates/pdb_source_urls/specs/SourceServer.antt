@@ -34,9 +34,13 @@ abbrev pub place_of : ℕ → List ℕ → Option ℕ
 place_of stop [] = None
 place_of stop (byte ∷ text) = if byte == stop then Some 0 else option_map (λ place. place + 1) (place_of stop text)
 
+-- the parts of a text before and after the byte at a place
+abbrev pub around : List ℕ → ℕ → List ℕ × List ℕ
+around text place = (take place text, drop (place + 1) text)
+
 -- the parts of a text before and after the first such byte, if it has one
 abbrev pub cut_at : ℕ → List ℕ → Option (List ℕ × List ℕ)
-cut_at stop text = option_map (λ place. (take place text, drop (place + 1) text)) (place_of stop text)
+cut_at stop text = option_map (around text) (place_of stop text)
 
 -- the first line of a text: all up to the first line feed
 abbrev pub first_line : List ℕ → List ℕ
@@ -55,17 +59,17 @@ lines (byte ∷ text) = if byte == 10 then [] ∷ lines text else onto_first byt
 abbrev pub without_return : List ℕ → List ℕ
 without_return line = if slice_index line (length line - 1) == 13 then take (length line - 1) line else line
 
--- whether a line begins with this text
-abbrev pub line_begins : List ℕ → List ℕ → Bool
-line_begins line front = starts_with (λ a b. a == b) line front
+-- whether a text begins with this one
+abbrev pub text_begins : List ℕ → List ℕ → Bool
+text_begins text front = starts_with (λ a b. a == b) text front
 
 -- the section that a line starts, if it starts one; the lines of the last one say nothing
 abbrev pub section_of : List ℕ → Option Section
 section_of line =
-    if line_begins line (codes "SRCSRV: ini") then Some Variables else
-    if line_begins line (codes "SRCSRV: variables") then Some Variables else
-    if line_begins line (codes "SRCSRV: source files") then Some Files else
-    if line_begins line (codes "SRCSRV: end") then Some Other else
+    if text_begins line (codes "SRCSRV: ini") then Some Variables else
+    if text_begins line (codes "SRCSRV: variables") then Some Variables else
+    if text_begins line (codes "SRCSRV: source files") then Some Files else
+    if text_begins line (codes "SRCSRV: end") then Some Other else
     None
 
 -- how many definitions of variables count at most

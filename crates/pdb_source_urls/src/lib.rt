@@ -5,9 +5,11 @@
 //! are.
 #![tactic(auto)]
 
+mod expansion;
 mod file_names;
 mod link_urls;
 mod named_streams;
+mod server_urls;
 mod source_links;
 mod source_server;
 mod source_urls;

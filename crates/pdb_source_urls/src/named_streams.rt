@@ -3,10 +3,12 @@
 ghost use Rattle.std.specs.Prelude.{◌≡◌, ◌≤◌, IfErr, IfOk, map, option_map, string_bytes};
 ghost use Rattle.pdb_msf.specs.Msf.{stream_of};
 ghost use Rattle.pdb_msf.specs.MsfLayout.{IfFile, with_bytes};
-ghost use Rattle.pdb_source_urls.specs.NamedStreams.{AddsStream, links_of, named_bytes, numbered_name};
+ghost use Rattle.pdb_source_urls.specs.NamedStreams.{AddsStream, links_of, named_bytes, numbered_name, server_in};
 ghost use Rattle.pdb_source_urls.specs.SourceLinks.{link_seen};
+ghost use Rattle.pdb_source_urls.specs.SourceServer.{server_seen};
 
 use crate::source_links::{SourceLink, with_text};
+use crate::source_server::{SourceServer, read_server};
 use pdb_container::parts::{INFO, InfoStream};
 use pdb_msf::{MsfLayout, Source, SourceError, StreamSubset};
 use std::alloc::{AllocError, Global};
@@ -17,14 +19,27 @@ const PLAIN: [u8; 11] = *b"sourcelink\0";
 /// The number that is one more than that of the last Source Link stream that is read.
 const NUMBERS_END: usize = 64;
 
-/// The entries of a file's Source Link streams that count.
-pub(crate) fn read_links<S: Source>(
+/// The name of the stream of source server data.
+const SERVER: [u8; 7] = *b"srcsrv\0";
+
+/// What the streams of a file say of where its source files can be fetched.
+#[derive(Drop)]
+pub(crate) struct NamedData {
+    /// The entries of the Source Link streams that count.
+    pub(crate) links: Vec<SourceLink>,
+    pub(crate) server: SourceServer,
+}
+
+/// What the streams of a file say, by the names that the info stream has for them.
+pub(crate) fn read_named<S: Source>(
     alloc: Global,
     layout: &MsfLayout,
     source: &mut S,
-) -> Result<Vec<SourceLink>, SourceError>
-    ensures answer { IfOk result (λ links. IfFile (S.bytes source.old) layout.now.file_length (λ file.
-        map link_seen links.items ≡ links_of (with_bytes file layout.now))) }
+) -> Result<NamedData, SourceError>
+    ensures links { IfOk result (λ read. IfFile (S.bytes source.old) layout.now.file_length (λ file.
+        map link_seen read.links.items ≡ links_of (with_bytes file layout.now))) }
+    ensures server { IfOk result (λ read. IfFile (S.bytes source.old) layout.now.file_length (λ file.
+        server_seen read.server ≡ server_in (with_bytes file layout.now))) }
     ensures refused { IfErr result (λ fault. fault ≡ SourceError.Unreadable
         → S.refuses_from source.old ≤ layout.now.file_length) }
     ensures inputs { S.bytes source.new ≡ S.bytes source.old }
@@ -34,13 +49,39 @@ pub(crate) fn read_links<S: Source>(
     excerpt.add(alloc, layout, source, INFO)?;
     let container = excerpt.container(alloc)?;
     match InfoStream::read(alloc, &container) {
-        Ok(info) => read_named_links(alloc, layout, source, &info),
+        Ok(info) => Ok(NamedData {
+            links: read_links(alloc, layout, source, &info)?,
+            server: read_named_server(alloc, layout, source, &info)?,
+        }),
         Err(_) => Err(SourceError::OutOfMemory),
     }
 }
 
-// The same, by the info stream.
-fn read_named_links<S: Source>(
+// The source server data of a file; a file without its stream has none.
+#[tactic(auto, unfolding(crate::specs::NamedStreams::server_in))]
+fn read_named_server<S: Source>(
+    alloc: Global,
+    layout: &MsfLayout,
+    source: &mut S,
+    info: &InfoStream<'_>,
+) -> Result<SourceServer, SourceError>
+    ensures answer { IfOk result (λ server. IfFile (S.bytes source.old) layout.now.file_length (λ file.
+        stream_of (with_bytes file layout.now) 1 ≡ info.now
+        → server_seen server ≡ server_in (with_bytes file layout.now))) }
+    ensures refused { IfErr result (λ fault. fault ≡ SourceError.Unreadable
+        → S.refuses_from source.old ≤ layout.now.file_length) }
+    ensures inputs { S.bytes source.new ≡ S.bytes source.old }
+    ensures refusals { S.refuses_from source.new ≡ S.refuses_from source.old }
+{
+    let server = match load_named(alloc, layout, source, info, &SERVER)? {
+        Some(stream) => read_server(alloc, &stream)?,
+        None => read_server(alloc, &[])?,
+    };
+    Ok(server)
+}
+
+// The entries of a file's Source Link streams that count.
+fn read_links<S: Source>(
     alloc: Global,
     layout: &MsfLayout,
     source: &mut S,

@@ -6,8 +6,8 @@ ghost use Rattle.pdb_msf.specs.MsfLayout.{IfFile, Reads};
 ghost use Rattle.pdb_source_urls.specs.SourceUrls.{is_empty, url_of, urls_of};
 
 use crate::link_urls::link_url;
-use crate::named_streams::read_links;
-use crate::source_links::SourceLink;
+use crate::named_streams::{NamedData, read_named};
+use crate::server_urls::server_url;
 use pdb_msf::{MsfLayout, OpenError, Source};
 use std::alloc::{AllocError, Global};
 use std::marker::Model;
@@ -15,17 +15,21 @@ use std::marker::Model;
 /// What a PDB file says of where its source files can be fetched.
 #[derive(Drop)]
 pub struct SourceUrls {
-    links: Vec<SourceLink>,
+    read: NamedData,
 }
 
 impl Model for SourceUrls {
     ghost use Rattle.std.specs.Prelude.{map};
     ghost use Rattle.pdb_source_urls.specs.SourceLinks.{link_seen};
+    ghost use Rattle.pdb_source_urls.specs.SourceServer.{server_seen};
     ghost use Rattle.pdb_source_urls.specs.SourceUrls.{Urls};
 
     ghost Value = { Urls };
 
-    ghost view = { λ urls. record { links = map link_seen urls.links.items } };
+    ghost view = { λ urls. record {
+      links = map link_seen urls.read.links.items;
+      server = server_seen urls.read.server;
+    } };
 }
 
 /// What a PDB file of this length says of where its source files can be fetched. A stream that is broken says nothing.
@@ -42,8 +46,8 @@ pub fn read_source_urls<S: Source>(
     ensures refusals { S.refuses_from source.new ≡ S.refuses_from source.old }
 {
     let layout = MsfLayout::read(alloc, source, file_length)?;
-    let links = read_links(alloc, &layout, source)?;
-    Ok(SourceUrls { links })
+    let read = read_named(alloc, &layout, source)?;
+    Ok(SourceUrls { read })
 }
 
 impl SourceUrls {
@@ -51,7 +55,7 @@ impl SourceUrls {
     pub fn is_empty(&self) -> bool
         ensures { result ≡ is_empty self.now }
     {
-        self.links.is_empty()
+        self.read.links.is_empty() && self.read.server.files.is_empty()
     }
 
     /// The URL of a source file, whose name is as it stands in the PDB file. There is none if the file doesn't say where
@@ -59,6 +63,9 @@ impl SourceUrls {
     pub fn url_of(&self, alloc: Global, file: &str) -> Result<Option<String>, AllocError>
         ensures { IfOk result (λ url. option_map string_bytes url ≡ url_of self.now file.now) }
     {
-        link_url(alloc, &self.links, file)
+        match link_url(alloc, &self.read.links, file)? {
+            Some(url) => Ok(Some(url)),
+            None => server_url(alloc, &self.read.server, file),
+        }
     }
 }

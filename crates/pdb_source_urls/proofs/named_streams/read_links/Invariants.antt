@@ -4,7 +4,7 @@ use Rattle.pdb_msf.specs.Msf.{stream_of}
 use Rattle.pdb_msf.specs.MsfLayout.{IfFile, with_bytes}
 use Rattle.pdb_source_urls.specs.NamedStreams.{links_of, with_numbered}
 use Rattle.pdb_source_urls.specs.SourceLinks.{link_seen}
-use Rattle.pdb_source_urls.proofs.named_streams.read_named_links.Given as goal
+use Rattle.pdb_source_urls.proofs.named_streams.read_links.Given as goal
 
 abbrev pub invariant-loop-number : goal.invariant-loop-number
 invariant-loop-number g l = record {

@@ -2,9 +2,9 @@
 use Rattle.std.proofs.Common.{◌≡◌, ◌∙◌, ap, arith, map, rules, true}
 use Rattle.pdb_source_urls.specs.SourceLinks.{link_seen}
 use Rattle.pdb_source_urls.proofs.NumberedLemmas.{all_left, at_end, no_more, one_less}
-use Rattle.pdb_source_urls.proofs.named_streams.read_named_links.Goals as goal
-use Rattle.pdb_source_urls.proofs.named_streams.read_named_links.Goals.{else-loop-number-test}
-use Rattle.pdb_source_urls.proofs.named_streams.read_named_links.Goals.{then-loop-number-test+in_ok-add_numbered+then-not-branch}
+use Rattle.pdb_source_urls.proofs.named_streams.read_links.Goals as goal
+use Rattle.pdb_source_urls.proofs.named_streams.read_links.Goals.{else-loop-number-test}
+use Rattle.pdb_source_urls.proofs.named_streams.read_links.Goals.{then-loop-number-test+in_ok-add_numbered+then-not-branch}
 
 pub loop-number-init : goal.loop-number-init
 loop-number-init g c = record {

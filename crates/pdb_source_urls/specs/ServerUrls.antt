@@ -1,0 +1,44 @@
+-- The URL of a source file by source server data.
+use Rattle.std.specs.Prelude.{ℕ, ◌||◌, ◌&&◌, Bool, false, nat_lt, List, [], ◌∷◌, codes, Option, Some, None, is_some}
+use Rattle.std.specs.Prelude.{length, option_and_then, if◌then◌else◌}
+use Rattle.std.specs.Option.{option_map_or}
+use Rattle.std.specs.Str.{is_utf8}
+use Rattle.pdb_source_urls.specs.Expansion.{Value, expand, field, most_text, value_of, variable_value}
+use Rattle.pdb_source_urls.specs.FileNames.{alike}
+use Rattle.pdb_source_urls.specs.SourceServer.{Definition, Server, text_begins}
+
+-- how deeply values may nest
+abbrev pub most_depth : ℕ
+most_depth = 32
+
+-- whether a line is that of a file: its first field is the file's name
+abbrev pub is_line_of : List ℕ → List ℕ → Bool
+is_line_of file line = option_map_or (λ path. alike path file) (field 0 line) false
+
+-- the first line that is that of a file
+abbrev pub file_line : List ℕ → List (List ℕ) → Option (List ℕ)
+file_line file [] = None
+file_line file (line ∷ lines) = if is_line_of file line then Some line else file_line file lines
+
+-- whether a text is a URL of a server, in UTF-8
+abbrev pub is_url : List ℕ → Bool
+is_url text = (text_begins text (codes "http://") || text_begins text (codes "https://")) && is_utf8 text
+
+-- the text of a value that is a URL
+abbrev pub url_in : List ℕ → Option (List ℕ)
+url_in text = if is_url text then Some text else None
+
+-- the value of the variable SRCSRVTRG, for the line of a file
+unfoldable pub target : List Definition → List ℕ → Option Value
+target variables line = value_of (expand most_depth (record { variables = variables; line = line }))
+    (record { variables = variables; line = line }) (codes "SRCSRVTRG") 0
+
+-- the URL by the line of a file: none where the line is too long, or where the file comes by a command
+abbrev pub line_url : List Definition → List ℕ → Option (List ℕ)
+line_url variables line =
+    if nat_lt most_text (length line) || is_some (variable_value (codes "SRCSRVCMD") variables) then None else
+    option_and_then (λ value. url_in value.text) (target variables line)
+
+-- the URL of a file by source server data
+abbrev pub server_url : Server → List ℕ → Option (List ℕ)
+server_url server file = option_and_then (line_url server.variables) (file_line file server.files)
