@@ -1,6 +1,6 @@
 //! Where the source files of a program can be fetched, as its PDB file says it.
 
-ghost use Rattle.std.specs.Prelude.{◌≡◌, ◌≤◌, IfErr, IfOk, option_map, string_bytes};
+ghost use Rattle.std.specs.Prelude.{◌≡◌, ◌≤◌, ℕ, List, None, IfErr, IfOk, option_map, string_bytes};
 ghost use Rattle.pdb_container.specs.DebugRecords.{of_file};
 ghost use Rattle.pdb_msf.specs.MsfLayout.{IfFile, Reads};
 ghost use Rattle.pdb_source_urls.specs.SourceUrls.{is_empty, url_of, urls_of};
@@ -8,6 +8,7 @@ ghost use Rattle.pdb_source_urls.specs.SourceUrls.{is_empty, url_of, urls_of};
 use crate::link_urls::link_url;
 use crate::named_streams::{NamedData, read_named};
 use crate::server_urls::server_url;
+use crate::source_server::SourceServer;
 use pdb_msf::{MsfLayout, OpenError, Source};
 use std::alloc::{AllocError, Global};
 use std::marker::Model;
@@ -51,6 +52,21 @@ pub fn read_source_urls<S: Source>(
 }
 
 impl SourceUrls {
+    /// A value that says no URL of any file.
+    pub fn new(alloc: Global) -> Self
+        ensures { (file : List ℕ) → url_of result file ≡ None }
+    {
+        SourceUrls {
+            read: NamedData {
+                links: Vec::new(alloc),
+                server: SourceServer {
+                    variables: Vec::new(alloc),
+                    files: Vec::new(alloc),
+                },
+            },
+        }
+    }
+
     /// Whether the file says nothing of where its sources are.
     pub fn is_empty(&self) -> bool
         ensures { result ≡ is_empty self.now }
