@@ -99,6 +99,25 @@ class Files(unittest.TestCase):
                 self.assertEqual(list(program.find_frames(0x1136)), STACK)
         with self.assertRaises(FileNotFoundError):
             limberlime.Program.open(FILES / "missing.pdb")
+        with self.assertRaises(IsADirectoryError):
+            limberlime.Program.open(FILES)
+
+    def test_a_file_at_a_path_answers_as_its_bytes(self):
+        with limberlime.Program.open_pdb(SHAPES) as whole, limberlime.Program.open(PATH) as parts:
+            for address in range(0x0FF0, 0x1300):
+                self.assertEqual(list(parts.find_frames(address)), list(whole.find_frames(address)))
+                self.assertEqual(list(parts.find_function(address)), list(whole.find_function(address)))
+        with limberlime.Program.open_pdb(SHAPES) as whole, limberlime.Program.open(PATH) as parts:
+            self.assertEqual(list(parts.find_frames(0x1136)), STACK)
+            self.assertEqual(list(parts.functions()), list(whole.functions()))
+            self.assertEqual(list(parts.find_frames(0x1136)), STACK)
+            self.assertEqual(parts.report_names([0x1136]), whole.report_names([0x1136]))
+
+    def test_files_at_paths_are_refused_as_their_bytes(self):
+        for name, number in REFUSED.items():
+            with self.subTest(name), self.assertRaises(limberlime.Error) as caught:
+                limberlime.Program.open(FILES / name)
+            self.assertEqual(caught.exception.refusal, number, name)
 
     def test_refusals_are_those_of_the_header(self):
         numbers = re.findall(r"LIMBERLIME_(\w+) = (-\d+)", HEADER.read_text())

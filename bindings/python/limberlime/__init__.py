@@ -13,7 +13,6 @@ from __future__ import annotations
 
 import ctypes
 import os
-import pathlib
 import threading
 from typing import Callable, Iterator, NamedTuple, Optional, Sequence, Union
 
@@ -72,7 +71,7 @@ class Frames(Sequence[Frame]):
 
 
 class Program:
-    """A program's records, which are read once for many questions.
+    """A program's records, for many questions.
 
     It is closed at the end of a `with`, by `close`, or when it is no longer used. Threads may share it: a lock lets one
     call at a time reach the library, so questions of two threads don't run at once. For that, open the file twice.
@@ -84,8 +83,18 @@ class Program:
 
     @classmethod
     def open(cls, path: Union[str, os.PathLike]) -> Program:
-        """Reads the PDB file at a path, as `open_pdb` reads its bytes."""
-        return cls.open_pdb(pathlib.Path(path).read_bytes())
+        """Opens the PDB file at a path. Of the file only what a question needs is read, when it is asked for; `functions`,
+        `report_frames` and `report_names` read all of it. Until the program is closed, nobody may write to the file or
+        cut it. It may be removed, or replaced by a file that is renamed to its path. Broken parts of it are left out,
+        and all else is answered. Raises OSError where the file can't be read, and Error where nothing can be answered
+        over it."""
+        program = cls()
+        answer = _calls.limberlime_open_path(os.fsencode(path), ctypes.byref(program._handle))
+        if answer == Refusal.CANNOT_READ_FILE:
+            with open(path, "rb"):
+                pass  # the system says here why the file can't be read
+        _answered(answer)
+        return program
 
     @classmethod
     def open_pdb(cls, pdb: bytes) -> Program:

@@ -20,8 +20,16 @@ class Buffers(ctypes.Structure):
                 ("texts", ctypes.c_void_p), ("text_capacity", ctypes.c_size_t)]
 
 
+class File(ctypes.Structure):
+    _fields_ = [("bytes", ctypes.c_void_p), ("length", ctypes.c_size_t), ("is_mapped", ctypes.c_int),
+                ("flags", ctypes.c_void_p), ("flag_capacity", ctypes.c_size_t), ("modules", ctypes.c_size_t),
+                ("addresses", ctypes.c_void_p), ("address_count", ctypes.c_size_t),
+                ("address_capacity", ctypes.c_size_t), ("rounds", ctypes.c_uint)]
+
+
 class Handle(ctypes.Structure):
-    _fields_ = [("records", ctypes.c_void_p), ("context", ctypes.c_void_p), ("sizes", Sizes), ("buffers", Buffers)]
+    _fields_ = [("records", ctypes.c_void_p), ("context", ctypes.c_void_p), ("sizes", Sizes), ("buffers", Buffers),
+                ("file", File)]
 
 
 class Frame(ctypes.Structure):
@@ -63,7 +71,7 @@ def _load() -> ctypes.CDLL:
     addresses = [ctypes.POINTER(ctypes.c_uint32), size]
     calls = {
         "open": [*text, handle], "open_records": [*text, ModuleFileCall, ctypes.c_void_p, handle],
-        "open_pdb": [*text, handle], "debug_id": [*text, *buffer], "machine": text, "version": [],
+        "open_pdb": [*text, handle], "open_path": [ctypes.c_char_p, handle], "debug_id": [*text, *buffer], "machine": text, "version": [],
         "frames_of": [handle, *addresses, *buffer], "names_of": [handle, *addresses, *buffer],
         "find_frames": [handle, ctypes.c_uint32, ctypes.POINTER(FunctionFrames)],
         "find_function": [handle, ctypes.c_uint32, ctypes.POINTER(FunctionFrames)],

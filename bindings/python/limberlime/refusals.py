@@ -31,6 +31,7 @@ class Refusal(enum.IntEnum):
     BROKEN_STREAM = -22
     NO_DEBUG_ID = -23
     CANNOT_READ_MODULE = -24
+    CANNOT_READ_FILE = -25
 
 
 class Error(Exception):

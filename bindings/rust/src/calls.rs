@@ -70,6 +70,24 @@ extern "C" {
 
     fn limberlime_open_pdb_unchecked(pdb: *const u8, length: usize, handle: *mut Handle) -> i64;
 
+    fn limberlime_open_part_unchecked(
+        pdb: *const u8,
+        length: usize,
+        addresses: *const u32,
+        count: usize,
+        flags: *mut u8,
+        capacity: usize,
+        modules: *mut usize,
+        handle: *mut Handle,
+    ) -> i64;
+
+    fn limberlime_is_read_unchecked(
+        handle: *mut Handle,
+        address: u32,
+        flags: *const u8,
+        modules: usize,
+    ) -> i64;
+
     fn limberlime_debug_id_unchecked(
         pdb: *const u8,
         length: usize,
@@ -146,7 +164,7 @@ const DEBUG_ID_BYTES: usize = 40;
 unsafe impl Send for Handle {}
 
 impl Handle {
-    fn closed() -> Handle {
+    pub(crate) fn closed() -> Handle {
         Handle {
             records: ptr::null_mut(),
             context: ptr::null_mut(),
@@ -158,6 +176,50 @@ impl Handle {
         // SAFETY: the pointer is the slice's, with its length, and the handle is closed, as before its first call.
         let answer = unsafe { limberlime_open_pdb_unchecked(pdb.as_ptr(), pdb.len(), &mut handle) };
         length_of(answer).map(|_| handle)
+    }
+
+    /// Reads what answers at these addresses need of a PDB file. There is a flag for each module then: 1 if it was read.
+    /// There are no flags once all of the file was read.
+    pub(crate) fn open_part(
+        &mut self,
+        pdb: &[u8],
+        addresses: &[u32],
+        flags: &mut Vec<u8>,
+    ) -> Result<(), Error> {
+        let mut open = |flags: &mut Vec<u8>| {
+            let mut modules = 0;
+            // SAFETY: the pointers are the slices', the vector's and the references', with their lengths; the library
+            // alone writes the handle, which this call borrows alone.
+            let answer = unsafe {
+                limberlime_open_part_unchecked(
+                    pdb.as_ptr(),
+                    pdb.len(),
+                    addresses.as_ptr(),
+                    addresses.len(),
+                    flags.as_mut_ptr(),
+                    flags.len(),
+                    &mut modules,
+                    self,
+                )
+            };
+            (answer, modules)
+        };
+        let (mut answer, mut modules) = open(flags);
+        if answer == BUFFER_TOO_SMALL {
+            flags.resize(modules, 0);
+            (answer, modules) = open(flags);
+        }
+        length_of(answer)?;
+        flags.truncate(modules);
+        Ok(())
+    }
+
+    /// Whether the module whose code lies at an address was read, by these flags.
+    pub(crate) fn is_read(&mut self, address: u32, flags: &[u8]) -> Result<bool, Error> {
+        // SAFETY: the pointer is the slice's, with its length; the library alone writes the handle, which this call
+        // borrows alone.
+        let answer = unsafe { limberlime_is_read_unchecked(self, address, flags.as_ptr(), flags.len()) };
+        length_of(answer).map(|read| read == 1)
     }
 
     pub(crate) fn open_records(records: &[u8]) -> Result<Handle, Error> {

@@ -22,15 +22,17 @@ mod calls;
 mod errors;
 mod frames;
 mod functions;
+mod parts;
 
 pub use errors::Error;
 pub use frames::{Frame, Frames, Iter};
 pub use functions::{Function, Functions};
 
 use calls::{Buffers, FindCall, Handle};
+use parts::{Left, PartFile};
 use std::fmt;
 
-/// A program's records, which are read once for many questions, and given back when this is dropped.
+/// A program's records, for many questions. They are freed when this is dropped.
 ///
 /// It may go to another thread, and one question at a time is put to it:
 ///
@@ -46,6 +48,8 @@ use std::fmt;
 pub struct Program {
     handle: Handle,
     buffers: Buffers,
+    /// The file, as long as only parts of it were read.
+    file: Option<PartFile>,
 }
 
 impl Program {
@@ -64,6 +68,31 @@ impl Program {
     /// ```
     pub fn open_pdb(pdb: &[u8]) -> Result<Program, Error> {
         Ok(Program::of(Handle::open_pdb(pdb)?))
+    }
+
+    /// Opens a PDB file by its bytes, such as a vector or a memory map, and keeps them. Of the file only what a question
+    /// needs is read, when it is asked for; [`Program::functions`], [`Program::report_frames`] and
+    /// [`Program::report_names`] read all of it. What of the file is broken is left out, and all else is answered.
+    ///
+    /// # Errors
+    ///
+    /// Those of [`Program::open_pdb`].
+    ///
+    /// ```
+    /// # fn main() -> Result<(), Box<dyn std::error::Error>> {
+    /// let file = std::fs::read("../../crates/pdb_symbolizer/data/shapes.pdb")?;
+    /// let mut program = limberlime::Program::open_in_place(file)?;
+    /// assert_eq!(program.find_frames(0x1136)?.len(), 3);
+    /// # Ok(())
+    /// # }
+    /// ```
+    pub fn open_in_place(pdb: impl AsRef<[u8]> + Send + 'static) -> Result<Program, Error> {
+        let mut handle = Handle::closed();
+        let mut file = PartFile::new(Box::new(pdb));
+        let left = file.read_part(&mut handle)?;
+        let mut program = Program::of(handle);
+        program.file = (left == Left::Modules).then_some(file);
+        Ok(program)
     }
 
     /// Reads the records in the bytes of a records file.
@@ -94,7 +123,27 @@ impl Program {
         Program {
             handle,
             buffers: Buffers::new(),
+            file: None,
         }
+    }
+
+    /// Reads what is missing for an answer at an address.
+    fn read_for(&mut self, address: u32) -> Result<(), Error> {
+        if let Some(file) = &mut self.file {
+            if file.read_for(&mut self.handle, address)? == Left::Nothing {
+                self.file = None;
+            }
+        }
+        Ok(())
+    }
+
+    /// Reads all that is missing.
+    fn read_whole(&mut self) -> Result<(), Error> {
+        if let Some(file) = &self.file {
+            file.read_whole(&mut self.handle)?;
+            self.file = None;
+        }
+        Ok(())
     }
 
     /// The functions in whose code an address lies, with files and lines, the innermost inlined one first. There are
@@ -105,6 +154,7 @@ impl Program {
     /// [`Error::AddressRefused`] where the records of the address's module are refused, and
     /// [`Error::OutOfMemory`].
     pub fn find_frames(&mut self, address: u32) -> Result<Frames<'_>, Error> {
+        self.read_for(address)?;
         self.buffers.find(&mut self.handle, FindCall::Frames, address)
     }
 
@@ -125,6 +175,7 @@ impl Program {
     /// # }
     /// ```
     pub fn find_function(&mut self, address: u32) -> Result<Frames<'_>, Error> {
+        self.read_for(address)?;
         self.buffers.find(&mut self.handle, FindCall::Function, address)
     }
 
@@ -145,6 +196,7 @@ impl Program {
 
     /// The first address from this one on at which a function starts.
     fn next_start(&mut self, address: u32) -> Result<Option<u32>, Error> {
+        self.read_whole()?;
         let found = self
             .buffers
             .find(&mut self.handle, FindCall::NextStart, address)?;
@@ -158,6 +210,7 @@ impl Program {
     /// [`Error::NoAddresses`], [`Error::AddressRefused`] where one of them is refused, and
     /// [`Error::OutOfMemory`].
     pub fn report_frames(&mut self, addresses: &[u32]) -> Result<String, Error> {
+        self.read_whole()?;
         self.handle.report_frames(addresses)
     }
 
@@ -167,6 +220,7 @@ impl Program {
     ///
     /// [`Error::NoAddresses`] and [`Error::OutOfMemory`].
     pub fn report_names(&mut self, addresses: &[u32]) -> Result<String, Error> {
+        self.read_whole()?;
         self.handle.report_names(addresses)
     }
 }

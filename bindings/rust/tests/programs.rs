@@ -62,6 +62,23 @@ fn nothing_lies_over_other_addresses() {
 }
 
 #[test]
+fn a_file_that_is_kept_answers_as_its_bytes() {
+    let bytes = fs::read(SHAPES).expect("the file is there");
+    let mut whole = shapes();
+    let mut parts = Program::open_in_place(bytes.clone()).expect("it opens");
+    for address in 0x0ff0..0x1300 {
+        let wanted = whole.find_frames(address).expect("it is answered");
+        let found = parts.find_frames(address).expect("it is answered");
+        assert!(found.iter().eq(wanted.iter()), "{address:#x}");
+    }
+    let mut parts = Program::open_in_place(bytes).expect("it opens");
+    assert_eq!(parts.find_frames(0x1136).map(|frames| frames.len()), Ok(3));
+    assert_eq!(parts.functions().count(), whole.functions().count());
+    assert_eq!(parts.find_frames(0x1136).map(|frames| frames.len()), Ok(3));
+    assert_eq!(Program::open_in_place("MZ").err(), Some(Error::Program));
+}
+
+#[test]
 fn a_program_goes_to_another_thread() {
     let mut program = shapes();
     let asked = std::thread::spawn(move || {
