@@ -73,6 +73,78 @@ static void refused_files(const char *folder)
     limberlime_close(&handle);
 }
 
+/* Files at paths are refused as their bytes are, and so are paths without a file. */
+static void refused_paths(const char *folder)
+{
+    struct limberlime_handle handle = LIMBERLIME_CLOSED;
+    struct limberlime_function_frames frames;
+    char path[4096];
+    for (size_t i = 0; i < sizeof refused / sizeof *refused; i++) {
+        snprintf(path, sizeof path, "%s/%s", folder, refused[i].name);
+        expect("a refusal by its number", limberlime_open_path(path, &handle) == refused[i].refusal);
+        expect("the handle is closed", limberlime_find_frames(&handle, 0x1000, &frames) == LIMBERLIME_CLOSED_HANDLE);
+    }
+    snprintf(path, sizeof path, "%s/missing.pdb", folder);
+    expect("no file", limberlime_open_path(path, &handle) == LIMBERLIME_CANNOT_READ_FILE);
+    expect("a folder", limberlime_open_path(folder, &handle) == LIMBERLIME_CANNOT_READ_FILE);
+    expect("a device", limberlime_open_path("/dev/null", &handle) == LIMBERLIME_CANNOT_READ_FILE);
+    expect("no path", limberlime_open_path(NULL, &handle) == LIMBERLIME_NULL_POINTER);
+    expect("no handle", limberlime_open_path(path, NULL) == LIMBERLIME_NULL_POINTER);
+    limberlime_close(&handle);
+}
+
+/* Whether two answers are the same. */
+static int are_same(const struct limberlime_function_frames *a, const struct limberlime_function_frames *b)
+{
+    int same = a->count == b->count && a->start == b->start && a->end == b->end && a->end_known == b->end_known;
+    for (size_t i = 0; same && i < a->count; i++) {
+        const struct limberlime_frame *x = &a->frames[i], *y = &b->frames[i];
+        same = x->line == y->line && x->function_length == y->function_length && x->file_length == y->file_length
+            && (x->function == NULL) == (y->function == NULL) && (x->file == NULL) == (y->file == NULL)
+            && (x->function == NULL || strcmp(x->function, y->function) == 0)
+            && (x->file == NULL || strcmp(x->file, y->file) == 0);
+    }
+    return same;
+}
+
+static int add_frames(void *caller, uint32_t address, int64_t answer, const struct limberlime_function_frames *frames)
+{
+    (void)address;
+    *(size_t *)caller += answer == 0 ? frames->count : 0;
+    return 0;
+}
+
+/* A file at a path answers what its bytes do. */
+static void paths(const char *path, const uint8_t *pdb, size_t length)
+{
+    static const uint32_t addresses[] = {0x1136, 0x10, 0x1000};
+    struct limberlime_handle whole = LIMBERLIME_CLOSED, parts = LIMBERLIME_CLOSED;
+    struct limberlime_function_frames wanted, found;
+    uint8_t text[1024], wanted_text[1024];
+    size_t size = 0, wanted_size = 0, frames = 0;
+    uint64_t next = 0;
+    expect("it opens by its bytes", limberlime_open_pdb(pdb, length, &whole) == 0);
+    expect("it opens by its path", limberlime_open_path(path, &parts) == 0);
+    for (uint32_t address = 0x0ff0; address < 0x1300; address++) {
+        expect("frames", limberlime_find_frames(&whole, address, &wanted) == 0
+               && limberlime_find_frames(&parts, address, &found) == 0 && are_same(&wanted, &found));
+        expect("a function", limberlime_find_function(&whole, address, &wanted) == 0
+               && limberlime_find_function(&parts, address, &found) == 0 && are_same(&wanted, &found));
+    }
+    expect("it opens anew", limberlime_open_path(path, &parts) == 0);
+    expect("the next function", limberlime_next_function(&parts, &next, &found) == 0 && found.count == 1);
+    expect("it opens once more", limberlime_open_path(path, &parts) == 0);
+    expect("a text", limberlime_frames_of(&whole, addresses, 3, wanted_text, sizeof wanted_text, &wanted_size) > 0
+           && limberlime_frames_of(&parts, addresses, 3, text, sizeof text, &size) > 0 && size == wanted_size
+           && memcmp(text, wanted_text, size) == 0);
+    expect("it opens again", limberlime_open_path(path, &parts) == 0);
+    expect("a list", limberlime_find_all_frames(&parts, addresses, 3, add_frames, &frames) == 3 && frames > 3);
+    expect("bytes after a path", limberlime_open_pdb(pdb, length, &parts) == 0
+           && limberlime_find_frames(&parts, 0x1136, &found) == 0 && found.count == 3);
+    limberlime_close(&parts);
+    limberlime_close(&whole);
+}
+
 static void expect_frame(const struct limberlime_frame *frame, const char *function, const char *file, uint32_t line)
 {
     expect("a function's name", strcmp(frame->function, function) == 0);
@@ -162,7 +234,8 @@ static void names_without_struct(void)
     limberlime_sizes sizes = LIMBERLIME_SIZES;
     limberlime_buffers buffers = {&row, &frame, 1, NULL, 0};
     limberlime_contents contents = {NULL, 0, 0, NULL, 0};
-    expect("sizes", handle.sizes.frame == sizes.frame && frames.count + found.rows + contents.count == 0);
+    limberlime_file file = {NULL, 0, 0, NULL, 0, 0, NULL, 0, 0, 0};
+    expect("sizes", handle.sizes.frame == sizes.frame && frames.count + found.rows + contents.count + file.length == 0);
     expect("buffers", buffers.rows == &row);
 }
 #endif
@@ -284,6 +357,8 @@ int main(int argc, char **argv)
     size_t length;
     uint8_t *pdb = read_file(argv[1], "", &length);
     refused_files(argv[2]);
+    refused_paths(argv[2]);
+    paths(argv[1], pdb, length);
     shapes(pdb, length);
     larger_frames(pdb, length);
     versions();

@@ -16,8 +16,8 @@ use crate::run_errors::RunError;
 use crate::run_state::RunState;
 use crate::status_line::StatusLine;
 use crate::unopened_files::end_unopened;
-use pdb_source_urls::SourceUrls;
 use crate::word_answers::answer_words;
+use pdb_source_urls::SourceUrls;
 use std::io::{self, Read, Seek};
 use std::rt::Files;
 
