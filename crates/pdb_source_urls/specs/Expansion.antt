@@ -3,9 +3,8 @@ use Rattle.std.specs.Prelude.{ℕ, zero, suc, ◌+◌, ◌-◌, ◌*◌, ◌==�
 use Rattle.std.specs.Prelude.{◌≡◌, length, map, Option, Some, None, option_and_then, option_map, if◌then◌else◌}
 use Rattle.std.specs.Prelude.{Result, Ok, Err}
 use Rattle.std.specs.Char.{is_ascii_digit}
-use Rattle.std.specs.Option.{option_map_or}
 use Rattle.pdb_source_urls.specs.FileNames.{alike, base_name, begins_with}
-use Rattle.pdb_source_urls.specs.SourceServer.{Definition, around, cut_at, definition_seen}
+use Rattle.pdb_source_urls.specs.SourceServer.{Definition, around, cut_at, definition_seen, first_field}
 use Rattle.pdb_source_urls.specs.declared.expansion.Function.{Function}
 use Rattle.pdb_source_urls.specs.declared.expansion.Function.TheVariants.{Backslashes, BaseName, ValueOf}
 use Rattle.pdb_source_urls.specs.declared.expansion.Part.{Part}
@@ -61,9 +60,9 @@ last_value name found (variable ∷ variables) =
 abbrev pub variable_value : List ℕ → List Definition → Option (List ℕ)
 variable_value name variables = last_value name None variables
 
--- the field of a line that this number of fields stands before; there is a `*` between fields
+-- the field of a line that this number of fields stands before
 abbrev pub field : ℕ → List ℕ → Option (List ℕ)
-field zero line = Some (option_map_or (λ cut. cut.0) (cut_at 42 line) line)
+field zero line = Some (first_field line)
 field (suc before) line = option_and_then (λ cut. field before cut.1) (cut_at 42 line)
 
 -- how many fields stand before the one of these digits: one less than their number, which is from 1 to 99

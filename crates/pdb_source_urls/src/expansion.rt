@@ -7,7 +7,7 @@ ghost use Rattle.pdb_source_urls.specs.Expansion.{found_seen, function_of, given
 ghost use Rattle.pdb_source_urls.specs.Expansion.{closing, value_seen, variable_value, with_backslash};
 
 use crate::file_names::{alike, base_name, begins_with};
-use crate::source_server::{Variable, cut_at};
+use crate::source_server::{Variable, cut_at, first_field};
 use pdb_msf::bytes_from;
 use std::alloc::{AllocError, AllocFailed, Global};
 
@@ -329,8 +329,8 @@ fn fields_before(digits: &[u8]) -> Option<usize>
     }
 }
 
-/// The field of a line that this number of fields stands before; there is a `*` between fields.
-pub(crate) fn field(before: usize, line: &[u8]) -> Option<&[u8]>
+// The field of a line that this number of fields stands before.
+fn field(before: usize, line: &[u8]) -> Option<&[u8]>
     ensures { option_map (λ field. field.now) result ≡ field before line.now }
 {
     let mut rest = line;
@@ -340,8 +340,5 @@ pub(crate) fn field(before: usize, line: &[u8]) -> Option<&[u8]>
             None => return None,
         }
     }
-    match cut_at(rest, b'*') {
-        Some((field, _)) => Some(field),
-        None => Some(rest),
-    }
+    Some(first_field(rest))
 }
