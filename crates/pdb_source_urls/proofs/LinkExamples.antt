@@ -31,11 +31,15 @@ after_mark : with_text (0xef ∷ 0xbb ∷ 0xbf ∷ codes "{\"documents\":{\"b\":
 unfolding texts
 after_mark = refl
 
--- entries that don't count: a star within the path, two stars in the path, none or two in the URL, one in the URL alone,
--- and a value that is no text
-no_entry : with_text (codes "{\"documents\":{\"a*b\":\"*\",\"**\":\"*\",\"c*\":\"u\",\"d*\":\"**\",\"e\":\"*\",\"f\":1}}") [] ≡ []
+-- entries that don't count: a star within the path, and two stars in it
+no_path : with_text (codes "{\"documents\":{\"a*b\":\"*\",\"**\":\"*\"}}") [] ≡ []
 unfolding texts
-no_entry = refl
+no_path = refl
+
+-- no star and two stars in the URL, one in the URL alone, and a value that is no text
+no_url : with_text (codes "{\"documents\":{\"c*\":\"u\",\"d*\":\"**\",\"e\":\"*\",\"f\":1}}") [] ≡ []
+unfolding texts
+no_url = refl
 
 -- texts that have no map
 no_map : with_text (codes "{\"documents\":[]}") [] ≡ []
@@ -54,8 +58,8 @@ no_utf8 : with_text (codes "{\"documents\":{\"b\":\"u" ++ (0xff ∷ codes "\"}}"
 unfolding texts
 no_utf8 = refl
 
--- the longest path counts, in letters of any case, and the rest of the name is escaped: a space, a backslash, `é` in two
--- bytes, and `#`
+-- the longest path counts, in letters of any case; in the rest of the name a space, `é` (two bytes) and `#` are escaped,
+-- and a backslash is written as a slash
 abbrev links : List Link
 links = below (codes "C:\\") (codes "http://u/all/*") ∷ (below (codes "C:\\Src\\") (codes "http://u/*?v=1")
     ∷ (below (codes "c:\\src\\") (codes "http://u/later/*") ∷ (below (codes "D:\\one.c") (codes "http://u/more/*")

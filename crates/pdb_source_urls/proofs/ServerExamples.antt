@@ -33,15 +33,15 @@ data_of variables =
 abbrev with_target : List ℕ → List Definition → List Definition
 with_target text variables = variable (codes "SrcSrvTrg") text ∷ variables
 
--- variables that name others, in letters of any case; the last definition of a name counts, fields stand as they are, and
--- the first line of the file counts
+-- variables that name others, in letters of any case; the last definition of a name and the first line of a file count,
+-- and fields stand as they are
 nested : server_url (data_of (with_target (codes "https://%Server%/%var2%-%VAR3%")
     (variable (codes "server") (codes "no") ∷ (variable (codes "SERVER") (codes "%host%") ∷ (variable (codes "host")
     (codes "h") ∷ []))))) (codes "c:\\a.C") ≡ Some (codes "https://h/x/%y%-z")
 unfolding urls
 nested = refl
 
--- a function of a text with parentheses in it, one of a field's value, and one of another's value, in letters of any case
+-- functions of a text with parentheses in it, of a field, and of what another gives, in letters of any case
 abbrev source : Given
 source = record { variables = variable (codes "h") (codes "host") ∷ []; line = codes "C:\\a.c*h" }
 

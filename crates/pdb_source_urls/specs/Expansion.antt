@@ -110,8 +110,8 @@ function_of name =
 abbrev pub with_backslash : ℕ → ℕ
 with_backslash byte = if byte == 47 then 92 else byte
 
--- what a function gives for a text: the value of the variable of this name, the text with backslashes, or what follows its
--- last slash
+-- what a function gives for a text: the value of the variable of this name, the text with backslashes for slashes, or
+-- what follows its last slash
 abbrev pub call : Smaller → Given → Function → Value → Option Value
 call smaller g ValueOf argument = value_of smaller g argument.text argument.used
 call smaller g Backslashes argument = Some (record argument { text = map with_backslash argument.text })

@@ -29,8 +29,8 @@ abbrev pub is_plain : ℕ → Bool
 is_plain byte = is_ascii_alphanumeric byte
     || ((byte == 47) || ((byte == 45) || ((byte == 95) || ((byte == 46) || (byte == 126)))))
 
--- a byte of a file's name, as it stands in a URL: a backslash as `/`, and any that isn't plain as `%` and two hexadecimal
--- digits
+-- a byte of a file's name, as it stands in a URL: a backslash as `/`, and others that aren't plain as `%` and two
+-- hexadecimal digits
 abbrev pub escaped_byte : ℕ → List ℕ
 escaped_byte byte =
     if byte == 92 then codes "/" else

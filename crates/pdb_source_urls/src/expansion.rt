@@ -92,7 +92,10 @@ pub(crate) fn expand(
 ) -> Result<Expanded, ExpandError>
     ensures { Gives value_seen result (expand depth (given sources.entry) text.now used) }
 {
-    if depth == 0 || MOST_TEXT < text.len() {
+    if depth == 0 {
+        return Err(ExpandError::NoValue);
+    }
+    if MOST_TEXT < text.len() {
         return Err(ExpandError::NoValue);
     }
     let mut done = Expanded {
