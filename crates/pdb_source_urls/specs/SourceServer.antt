@@ -39,12 +39,12 @@ server_seen server = record {
   files = map file_seen server.files.items;
 }
 
--- where the first such byte stands in a text, if there is one
+-- the position of the first such byte in a text, if there is one
 abbrev pub place_of : ℕ → List ℕ → Option ℕ
 place_of stop [] = None
 place_of stop (byte ∷ text) = if byte == stop then Some 0 else option_map (λ place. place + 1) (place_of stop text)
 
--- the parts of a text before and after the byte at a place
+-- the parts of a text before and after the byte at a position
 abbrev pub around : List ℕ → ℕ → List ℕ × List ℕ
 around text place = (take place text, drop (place + 1) text)
 
@@ -108,12 +108,12 @@ with_line Variables line server = record server { variables = with_definition (c
 with_line Files line server = record server { files = server.files ++ file_of line ∷ [] }
 with_line Other line server = server
 
--- what a line adds that starts a section or doesn't
+-- what a line adds: nothing if it starts a section
 abbrev pub with_line_by : Option Section → Section → List ℕ → Server → Server
 with_line_by (Some started) section line server = server
 with_line_by None section line server = with_line section line server
 
--- what lines add that stand in this section at first
+-- what lines add; the first of them is in this section
 abbrev pub with_lines : Section → List (List ℕ) → Server → Server
 with_lines section [] server = server
 with_lines section (line ∷ lines) server =
