@@ -9,7 +9,7 @@ use Rattle.pdb_source_urls.specs.SourceServer.{Server, after_line, first_line, l
 use Rattle.pdb_source_urls.specs.SourceServer.{with_line_by, with_lines, without_return}
 use Rattle.pdb_source_urls.specs.declared.source_server.Section.{Section}
 
--- the lines of a text that isn't empty, by where its first line feed stands
+-- the lines of a text that isn't empty, by the position of its first line feed
 abbrev by_place : List ℕ → Option ℕ → List (List ℕ)
 by_place text None = text ∷ []
 by_place text (Some place) = take place text ∷ lines (drop (place + 1) text)

@@ -16,7 +16,7 @@ use std::alloc::{AllocError, Global};
 /// The name of the Source Link stream that has no number.
 const PLAIN: [u8; 11] = *b"sourcelink\0";
 
-/// The number that is one more than that of the last Source Link stream that is read.
+/// Source Link streams are read up to the number before this one.
 const NUMBERS_END: usize = 64;
 
 /// The name of the stream of source server data.
