@@ -5,6 +5,7 @@ use Rattle.std.specs.Fmt.{digits}
 use Rattle.std.specs.Str.{chars, is_utf8}
 use Rattle.serde_json.proofs.OnLiterals.{serde_json_on_literals}
 use Rattle.pdb_source_urls.specs.LinkUrls.{link_url}
+use Rattle.pdb_source_urls.specs.NamedStreams.{numbered_name}
 use Rattle.pdb_source_urls.specs.SourceLinks.{Link, with_text}
 
 -- the definitions of JSON and of UTF-8, which the examples compute
@@ -83,3 +84,8 @@ longer_name = refl
 -- no entry fits
 no_link : link_url links (codes "E:\\one.c") ≡ None
 no_link = refl
+
+-- the name of a Source Link stream with a number
+with_number : numbered_name 12 ≡ codes "sourcelink$12" ++ (0 ∷ [])
+unfolding digits
+with_number = refl

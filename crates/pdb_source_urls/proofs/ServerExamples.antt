@@ -1,10 +1,11 @@
 -- Source server data and the URLs that it gives, worked out by hand.
-use Rattle.std.proofs.Common.{◌≡◌, ℕ, List, [], ◌∷◌, ◌++◌, refl, codes}
+use Rattle.std.proofs.Common.{◌≡◌, false, ℕ, List, [], ◌∷◌, ◌++◌, refl, codes}
 use Rattle.std.specs.Prelude.{None, Option, Some, ⊤, replicate}
 use Rattle.std.specs.Str.{chars, is_utf8}
 use Rattle.pdb_source_urls.specs.Expansion.{Given, Value, added, expand, value_of}
 use Rattle.pdb_source_urls.specs.ServerUrls.{server_url, target}
 use Rattle.pdb_source_urls.specs.SourceServer.{Definition, Server, file_of, server_of}
+use Rattle.pdb_source_urls.specs.SourceUrls.{Urls, url_of}
 
 -- the definitions of expansion and of UTF-8, which the examples compute
 unfoldable urls : ⊤
@@ -126,3 +127,22 @@ no_server_url = refl
 no_line : server_url (data_of (with_target (codes "http://h") [])) (codes "a.c") ≡ None
 unfolding urls
 no_line = refl
+
+-- Source Link counts before source server data
+abbrev both : Urls
+both = record {
+  links = record { path = codes "c:\\b.c"; any_rest = false; url = codes "http://link/b" } ∷ [];
+  server = record {
+    variables = with_target (codes "http://server") [];
+    files = file_of (codes "C:\\a.c")
+        ∷ (file_of (codes "C:\\b.c") ∷ []);
+  };
+}
+
+by_link : url_of both (codes "C:\\B.c") ≡ Some (codes "http://link/b")
+unfolding urls
+by_link = refl
+
+by_server : url_of both (codes "C:\\A.c") ≡ Some (codes "http://server")
+unfolding urls
+by_server = refl
