@@ -5,6 +5,7 @@ use Rattle.std.specs.Fmt.{digits}
 use Rattle.std.specs.Str.{chars, is_utf8}
 use Rattle.serde_json.proofs.OnLiterals.{serde_json_on_literals}
 use Rattle.pdb_source_urls.specs.LinkUrls.{link_url}
+use Rattle.pdb_source_urls.specs.NamedStreams.{numbered_name}
 use Rattle.pdb_source_urls.specs.SourceLinks.{Link, with_text}
 
 -- the definitions of JSON and of UTF-8, which the examples compute
@@ -31,11 +32,15 @@ after_mark : with_text (0xef ∷ 0xbb ∷ 0xbf ∷ codes "{\"documents\":{\"b\":
 unfolding texts
 after_mark = refl
 
--- entries that don't count: a star within the path, two stars in the path, none or two in the URL, one in the URL alone,
--- and a value that is no text
-no_entry : with_text (codes "{\"documents\":{\"a*b\":\"*\",\"**\":\"*\",\"c*\":\"u\",\"d*\":\"**\",\"e\":\"*\",\"f\":1}}") [] ≡ []
+-- entries that don't count: a star within the path, and two stars in it
+no_path : with_text (codes "{\"documents\":{\"a*b\":\"*\",\"**\":\"*\"}}") [] ≡ []
 unfolding texts
-no_entry = refl
+no_path = refl
+
+-- no star and two stars in the URL, one in the URL alone, and a value that is no text
+no_url : with_text (codes "{\"documents\":{\"c*\":\"u\",\"d*\":\"**\",\"e\":\"*\",\"f\":1}}") [] ≡ []
+unfolding texts
+no_url = refl
 
 -- texts that have no map
 no_map : with_text (codes "{\"documents\":[]}") [] ≡ []
@@ -54,8 +59,8 @@ no_utf8 : with_text (codes "{\"documents\":{\"b\":\"u" ++ (0xff ∷ codes "\"}}"
 unfolding texts
 no_utf8 = refl
 
--- the longest path counts, in letters of any case, and the rest of the name is escaped: a space, a backslash, `é` in two
--- bytes, and `#`
+-- the longest path counts, in letters of any case; in the rest of the name a space, `é` (two bytes) and `#` are escaped,
+-- and a backslash is written as a slash
 abbrev links : List Link
 links = below (codes "C:\\") (codes "http://u/all/*") ∷ (below (codes "C:\\Src\\") (codes "http://u/*?v=1")
     ∷ (below (codes "c:\\src\\") (codes "http://u/later/*") ∷ (below (codes "D:\\one.c") (codes "http://u/more/*")
@@ -79,3 +84,8 @@ longer_name = refl
 -- no entry fits
 no_link : link_url links (codes "E:\\one.c") ≡ None
 no_link = refl
+
+-- the name of a Source Link stream with a number
+with_number : numbered_name 12 ≡ codes "sourcelink$12" ++ (0 ∷ [])
+unfolding digits
+with_number = refl

@@ -1,10 +1,11 @@
 -- Source server data and the URLs that it gives, worked out by hand.
-use Rattle.std.proofs.Common.{◌≡◌, ℕ, List, [], ◌∷◌, ◌++◌, refl, codes}
+use Rattle.std.proofs.Common.{◌≡◌, false, ℕ, List, [], ◌∷◌, ◌++◌, refl, codes}
 use Rattle.std.specs.Prelude.{None, Option, Some, ⊤, replicate}
 use Rattle.std.specs.Str.{chars, is_utf8}
 use Rattle.pdb_source_urls.specs.Expansion.{Given, Value, added, expand, value_of}
 use Rattle.pdb_source_urls.specs.ServerUrls.{server_url, target}
-use Rattle.pdb_source_urls.specs.SourceServer.{Definition, Server, server_of}
+use Rattle.pdb_source_urls.specs.SourceServer.{Definition, Server, file_of, server_of}
+use Rattle.pdb_source_urls.specs.SourceUrls.{Urls, url_of}
 
 -- the definitions of expansion and of UTF-8, which the examples compute
 unfoldable urls : ⊤
@@ -19,27 +20,29 @@ sections : server_of (codes "A=0\nSRCSRV: ini ---\nVERSION=2" ++ (13 ∷ codes "
     ++ codes "SRCSRV: source files ---\nC:\\a.c*x=1\nd.c\nSRCSRV: end ---\nE=1")
     ≡ record {
       variables = variable (codes "VERSION") (codes "2") ∷ (variable (codes "B") (codes "=1=") ∷ []);
-      files = codes "C:\\a.c*x=1" ∷ (codes "d.c" ∷ []);
+      files = record { name = codes "C:\\a.c"; line = codes "C:\\a.c*x=1" }
+          ∷ (record { name = codes "d.c"; line = codes "d.c" } ∷ []);
     }
 unfolding urls
 sections = refl
 
 -- data with these variables, and a line of a file with two more fields
 abbrev data_of : List Definition → Server
-data_of variables = record { variables = variables; files = codes "C:\\a.c*x/%y%*z" ∷ (codes "c:\\A.C*w" ∷ []) }
+data_of variables =
+    record { variables = variables; files = file_of (codes "C:\\a.c*x/%y%*z") ∷ (file_of (codes "c:\\A.C*w") ∷ []) }
 
 abbrev with_target : List ℕ → List Definition → List Definition
 with_target text variables = variable (codes "SrcSrvTrg") text ∷ variables
 
--- variables that name others, in letters of any case; the last definition of a name counts, fields stand as they are, and
--- the first line of the file counts
-nested : server_url (data_of (with_target (codes "https://%Server%/%var2%?%VAR3%")
+-- variables that name others, in letters of any case; the last definition of a name and the first line of a file count,
+-- and fields stand as they are
+nested : server_url (data_of (with_target (codes "https://%Server%/%var2%-%VAR3%")
     (variable (codes "server") (codes "no") ∷ (variable (codes "SERVER") (codes "%host%") ∷ (variable (codes "host")
-    (codes "h") ∷ []))))) (codes "c:\\a.C") ≡ Some (codes "https://h/x/%y%?z")
+    (codes "h") ∷ []))))) (codes "c:\\a.C") ≡ Some (codes "https://h/x/%y%-z")
 unfolding urls
 nested = refl
 
--- a function of a text with parentheses in it, one of a field's value, and one of another's value, in letters of any case
+-- functions of a text with parentheses in it, of a field, and of what another gives, in letters of any case
 abbrev source : Given
 source = record { variables = variable (codes "h") (codes "host") ∷ []; line = codes "C:\\a.c*h" }
 
@@ -124,3 +127,22 @@ no_server_url = refl
 no_line : server_url (data_of (with_target (codes "http://h") [])) (codes "a.c") ≡ None
 unfolding urls
 no_line = refl
+
+-- Source Link counts before source server data
+abbrev both : Urls
+both = record {
+  links = record { path = codes "c:\\b.c"; any_rest = false; url = codes "http://link/b" } ∷ [];
+  server = record {
+    variables = with_target (codes "http://server") [];
+    files = file_of (codes "C:\\a.c")
+        ∷ (file_of (codes "C:\\b.c") ∷ []);
+  };
+}
+
+by_link : url_of both (codes "C:\\B.c") ≡ Some (codes "http://link/b")
+unfolding urls
+by_link = refl
+
+by_server : url_of both (codes "C:\\A.c") ≡ Some (codes "http://server")
+unfolding urls
+by_server = refl

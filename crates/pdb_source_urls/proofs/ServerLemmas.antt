@@ -1,5 +1,6 @@
 -- The lines of source server data, one by one.
-use Rattle.std.proofs.Common.{◌≡◌, ◌∙◌, ℕ, ◌+◌, ◌<◌, ◌==◌, true, false, List, [], ◌∷◌, length, refl, ap, arith, drop, take}
+use Rattle.std.proofs.Common.{◌≡◌, ◌∙◌, ℕ, ◌+◌, ◌<◌, ◌==◌, true, false, List, [], ◌∷◌, length, refl, ap, arith}
+use Rattle.std.proofs.Common.{drop, take}
 use Rattle.std.proofs.Common.{add-one, length-drop}
 use Rattle.std.specs.Prelude.{Option, None, Some, if◌then◌else◌, option_map, unwrap_or}
 use Rattle.std.specs.List.{onto_first}
@@ -8,7 +9,7 @@ use Rattle.pdb_source_urls.specs.SourceServer.{Server, after_line, first_line, l
 use Rattle.pdb_source_urls.specs.SourceServer.{with_line_by, with_lines, without_return}
 use Rattle.pdb_source_urls.specs.declared.source_server.Section.{Section}
 
--- the lines of a text that isn't empty, by where its first line feed stands
+-- the lines of a text that isn't empty, by the position of its first line feed
 abbrev by_place : List ℕ → Option ℕ → List (List ℕ)
 by_place text None = text ∷ []
 by_place text (Some place) = take place text ∷ lines (drop (place + 1) text)
@@ -28,7 +29,8 @@ lines_by_place byte (next ∷ text) =
     ≡ by_place (byte ∷ (next ∷ text))
     (if b then Some 0 else option_map (λ place. place + 1) (place_of 10 (next ∷ text)))) [
       | true ↦ refl
-      | false ↦ ap (onto_first byte) (lines_by_place next text) ∙ onto_place byte (next ∷ text) (place_of 10 (next ∷ text))
+      | false ↦ ap (onto_first byte) (lines_by_place next text)
+          ∙ onto_place byte (next ∷ text) (place_of 10 (next ∷ text))
     ]
 
 -- a text that isn't empty has its first line, and the lines after that

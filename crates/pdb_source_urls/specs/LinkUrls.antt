@@ -24,24 +24,24 @@ best_link file best [] = best
 best_link file best (link ∷ links) =
     best_link file (if fits file link && is_better best link then Some link else best) links
 
--- whether a byte stands for itself in a URL: a letter, a digit, or one of `/-_.~`
+-- whether a URL has a byte as it is: a letter, a digit, or one of `/-_.~`
 abbrev pub is_plain : ℕ → Bool
 is_plain byte = is_ascii_alphanumeric byte
     || ((byte == 47) || ((byte == 45) || ((byte == 95) || ((byte == 46) || (byte == 126)))))
 
--- a byte of a file's name, as it stands in a URL: a backslash as `/`, and any that isn't plain as `%` and two hexadecimal
--- digits
+-- a byte of a file's name in a URL: a backslash is written as `/`, and others that aren't plain as `%` and two
+-- hexadecimal digits
 abbrev pub escaped_byte : ℕ → List ℕ
 escaped_byte byte =
     if byte == 92 then codes "/" else
     if is_plain byte then byte ∷ [] else
     codes "%" ++ (digits 16 true (byte / 16) ++ digits 16 true (byte % 16))
 
--- the rest of a file's name, as it stands in a URL
+-- the rest of a file's name in a URL
 abbrev pub escaped : List ℕ → List ℕ
 escaped rest = flat_map escaped_byte rest
 
--- the URL that an entry gives a file: in place of its star stands the rest of the file's name, after the path
+-- the URL that an entry gives a file: the rest of the file's name, after the path, replaces the star
 abbrev pub url_by_link : List ℕ → Link → List ℕ
 url_by_link file link =
     if link.any_rest

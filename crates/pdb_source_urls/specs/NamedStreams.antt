@@ -18,8 +18,8 @@ abbrev pub bytes_by : Msf → Result ℕ StreamError → Option (List ℕ)
 bytes_by msf (Ok number) = Some (bytes_or_none (stream_of msf number))
 bytes_by msf (Err error) = None
 
--- the bytes of the stream of this name, which has its zero after it, if there is one: the info stream, with the number 1,
--- has the names
+-- the bytes of the stream of this name, which ends in a zero, if there is one; the info stream, which has the number 1,
+-- lists the names
 unfoldable pub named_bytes : List ℕ → Msf → Option (List ℕ)
 named_bytes name msf = bytes_by msf (named_stream name (stream_of msf 1))
 

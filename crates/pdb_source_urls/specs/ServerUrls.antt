@@ -1,24 +1,19 @@
 -- The URL of a source file by source server data.
-use Rattle.std.specs.Prelude.{ℕ, ◌||◌, ◌&&◌, Bool, false, nat_lt, List, [], ◌∷◌, codes, Option, Some, None, is_some}
+use Rattle.std.specs.Prelude.{ℕ, ◌||◌, ◌&&◌, Bool, nat_lt, List, [], ◌∷◌, codes, Option, Some, None, is_some}
 use Rattle.std.specs.Prelude.{length, option_and_then, if◌then◌else◌}
-use Rattle.std.specs.Option.{option_map_or}
 use Rattle.std.specs.Str.{is_utf8}
-use Rattle.pdb_source_urls.specs.Expansion.{Value, expand, field, most_text, value_of, variable_value}
+use Rattle.pdb_source_urls.specs.Expansion.{Value, expand, most_text, value_of, variable_value}
 use Rattle.pdb_source_urls.specs.FileNames.{alike}
-use Rattle.pdb_source_urls.specs.SourceServer.{Definition, Server, text_begins}
+use Rattle.pdb_source_urls.specs.SourceServer.{Definition, File, Server, text_begins}
 
 -- how deeply values may nest
 abbrev pub most_depth : ℕ
 most_depth = 32
 
--- whether a line is that of a file: its first field is the file's name
-abbrev pub is_line_of : List ℕ → List ℕ → Bool
-is_line_of file line = option_map_or (λ path. alike path file) (field 0 line) false
-
--- the first line that is that of a file
-abbrev pub file_line : List ℕ → List (List ℕ) → Option (List ℕ)
-file_line file [] = None
-file_line file (line ∷ lines) = if is_line_of file line then Some line else file_line file lines
+-- the line of the first source file of this name
+abbrev pub file_line : List ℕ → List File → Option (List ℕ)
+file_line name [] = None
+file_line name (file ∷ files) = if alike file.name name then Some file.line else file_line name files
 
 -- whether a text is a URL of a server, in UTF-8
 abbrev pub is_url : List ℕ → Bool

@@ -62,7 +62,7 @@ abbrev pub with_value : Option Data → List Link → List Link
 with_value value links =
     with_map (option_and_then as_object (option_and_then (get (codes "documents")) value)) links
 
--- a text without the byte order mark, which may stand before it
+-- a text without its byte order mark, if it has one
 abbrev pub without_mark : List ℕ → List ℕ
 without_mark stream =
     if starts_with (λ a b. a == b) stream (0xef ∷ 0xbb ∷ 0xbf ∷ []) then drop 3 stream else stream

@@ -3,6 +3,7 @@ use Rattle.std.specs.Prelude.{ℕ, ◌+◌, ◌-◌, ◌==◌, Bool, nat_lt, Lis
 use Rattle.std.specs.Prelude.{slice_index, Option, Some, None, option_map, unwrap_or, if◌then◌else◌}
 use Rattle.std.specs.List.{onto_first, starts_with}
 use Rattle.std.specs.Option.{option_map_or}
+use Rattle.pdb_source_urls.specs.declared.source_server.FileLine.{FileLine}
 use Rattle.pdb_source_urls.specs.declared.source_server.Section.{Section}
 use Rattle.pdb_source_urls.specs.declared.source_server.Section.TheVariants.{Files, Other, Variables}
 use Rattle.pdb_source_urls.specs.declared.source_server.SourceServer.{SourceServer}
@@ -13,34 +14,51 @@ pub record Definition : Type 0 where
   pub name : List ℕ
   pub value : List ℕ
 
--- source server data: the variables in the order of their definitions, and the lines of files
+-- a source file, by its name and its line
+pub record File : Type 0 where
+  pub name : List ℕ
+  pub line : List ℕ
+
+-- source server data: the variables in the order of their definitions, and the source files in that of their lines
 pub record Server : Type 0 where
   pub variables : List Definition
-  pub files : List (List ℕ)
+  pub files : List File
 
 -- a variable, seen by its bytes
 abbrev pub definition_seen : Variable → Definition
 definition_seen variable = record { name = variable.name.items; value = variable.value.items }
 
+-- a source file, seen by its bytes
+abbrev pub file_seen : FileLine → File
+file_seen file = record { name = file.name.items; line = file.line.items }
+
 -- source server data, seen by its bytes
 abbrev pub server_seen : SourceServer → Server
 server_seen server = record {
   variables = map definition_seen server.variables.items;
-  files = map (λ line. line.items) server.files.items;
+  files = map file_seen server.files.items;
 }
 
--- where the first such byte stands in a text, if there is one
+-- the position of the first such byte in a text, if there is one
 abbrev pub place_of : ℕ → List ℕ → Option ℕ
 place_of stop [] = None
 place_of stop (byte ∷ text) = if byte == stop then Some 0 else option_map (λ place. place + 1) (place_of stop text)
 
--- the parts of a text before and after the byte at a place
+-- the parts of a text before and after the byte at a position
 abbrev pub around : List ℕ → ℕ → List ℕ × List ℕ
 around text place = (take place text, drop (place + 1) text)
 
 -- the parts of a text before and after the first such byte, if it has one
 abbrev pub cut_at : ℕ → List ℕ → Option (List ℕ × List ℕ)
 cut_at stop text = option_map (around text) (place_of stop text)
+
+-- the first field of a line; there is a `*` between fields
+abbrev pub first_field : List ℕ → List ℕ
+first_field line = option_map_or (λ cut. cut.0) (cut_at 42 line) line
+
+-- the source file of a line, whose first field is the name
+abbrev pub file_of : List ℕ → File
+file_of line = record { name = first_field line; line = line }
 
 -- the first line of a text: all up to the first line feed
 abbrev pub first_line : List ℕ → List ℕ
@@ -87,15 +105,15 @@ with_definition (Some cut) variables =
 -- what a line of a section adds: a variable by NAME=VALUE, or a file
 abbrev pub with_line : Section → List ℕ → Server → Server
 with_line Variables line server = record server { variables = with_definition (cut_at 61 line) server.variables }
-with_line Files line server = record server { files = server.files ++ line ∷ [] }
+with_line Files line server = record server { files = server.files ++ file_of line ∷ [] }
 with_line Other line server = server
 
--- what a line adds that starts a section or doesn't
+-- what a line adds: nothing if it starts a section
 abbrev pub with_line_by : Option Section → Section → List ℕ → Server → Server
 with_line_by (Some started) section line server = server
 with_line_by None section line server = with_line section line server
 
--- what lines add that stand in this section at first
+-- what lines add; the first of them is in this section
 abbrev pub with_lines : Section → List (List ℕ) → Server → Server
 with_lines section [] server = server
 with_lines section (line ∷ lines) server =

@@ -1,4 +1,4 @@
-//! Values of source server data, in which variables and functions stand for texts.
+//! Values of source server data, with the variables and functions in them expanded.
 
 ghost use Rattle.std.specs.Prelude.{◌≡◌, IfOk, map, option_map};
 ghost use Rattle.pdb_source_urls.specs.SourceServer.{around, definition_seen};
@@ -7,33 +7,33 @@ ghost use Rattle.pdb_source_urls.specs.Expansion.{found_seen, function_of, given
 ghost use Rattle.pdb_source_urls.specs.Expansion.{closing, value_seen, variable_value, with_backslash};
 
 use crate::file_names::{alike, base_name, begins_with};
-use crate::source_server::{Variable, cut_at};
+use crate::source_server::{Variable, cut_at, first_field};
 use pdb_msf::bytes_from;
 use std::alloc::{AllocError, AllocFailed, Global};
 
-/// How many variables are used at most.
+/// How many variables may be used for a URL.
 const MOST_USES: usize = 1000;
 
-/// How many bytes a text has at most.
+/// How many bytes a text may have.
 pub(crate) const MOST_TEXT: usize = 4096;
 
-/// What values are expanded by.
+/// What expansion needs.
 #[derive(Clone, Copy)]
 pub(crate) struct Sources<'s> {
     pub(crate) variables: &'s [Variable],
-    /// The line of the file.
+    /// The line of the source file.
     pub(crate) line: &'s [u8],
 }
 
-/// A text that was expanded.
+/// An expanded text.
 #[derive(Drop)]
 pub(crate) struct Expanded {
     pub(crate) text: Vec<u8>,
-    /// How many variables were used for it and before.
+    /// How many variables were used so far.
     pub(crate) used: usize,
 }
 
-/// A text that was expanded, and what follows it in the text that it stands in.
+/// An expanded text, and the rest of the text that it was read from.
 #[derive(Drop)]
 struct Part<'t> {
     value: Expanded,
@@ -43,11 +43,11 @@ struct Part<'t> {
 /// A function of a text.
 #[derive(Clone, Copy)]
 enum Function {
-    //// The value of the variable of this name, where values may nest so deeply, after so many variables were used.
+    /// The value of the variable of this name (fnvar).
     ValueOf,
-    /// The text with backslashes for slashes.
+    /// The text with backslashes for slashes (fnbksl).
     Backslashes,
-    /// What follows the last slash.
+    /// What follows the last slash (fnfile).
     BaseName,
 }
 
@@ -81,7 +81,7 @@ impl<T: Drop> From<AllocFailed<T>> for ExpandError {
     }
 }
 
-/// A text expanded, in which values may nest so deeply, after so many variables were used.
+/// Expands a text. Values and function calls may nest to this depth, and so many variables were used before.
 #[cycle(expansion)]
 pub(crate) fn expand(
     alloc: Global,
@@ -92,7 +92,10 @@ pub(crate) fn expand(
 ) -> Result<Expanded, ExpandError>
     ensures { Gives value_seen result (expand depth (given sources.entry) text.now used) }
 {
-    if depth == 0 || MOST_TEXT < text.len() {
+    if depth == 0 {
+        return Err(ExpandError::NoValue);
+    }
+    if MOST_TEXT < text.len() {
         return Err(ExpandError::NoValue);
     }
     let mut done = Expanded {
@@ -111,7 +114,7 @@ pub(crate) fn expand(
     Ok(done)
 }
 
-// A text, and after it this byte or the value that it begins.
+// Appends this byte to a text, or the value that the byte begins.
 #[cycle(expansion)]
 fn next<'t>(
     alloc: Global,
@@ -132,7 +135,7 @@ fn next<'t>(
     added(done, &part.value.text, part.value.used, part.rest)
 }
 
-// The value that stands after a `%`, and what follows it.
+// The value after a `%`, and the rest of the text.
 #[cycle(expansion)]
 fn part_at<'t>(
     alloc: Global,
@@ -184,7 +187,8 @@ fn call(
     }
 }
 
-/// The value of the variable of this name, where values may nest so deeply, after so many variables were used.
+/// The value of the variable of this name. Values and function calls may nest to this depth, and so many variables were
+/// used before.
 #[cycle(expansion)]
 pub(crate) fn value_of(
     alloc: Global,
@@ -210,7 +214,7 @@ pub(crate) fn value_of(
     }
 }
 
-// A text, and a part after it, unless that gets too long.
+// Appends a part to a text, unless it becomes too long.
 fn added<'t>(
     done: Expanded,
     text: &[u8],
@@ -303,7 +307,7 @@ pub(crate) fn variable_value<'v>(name: &[u8], variables: &'v [Variable]) -> Opti
     found
 }
 
-// The field that a variable is, whose name is `var` and a number.
+// The value of a variable whose name is `var` and a number: a field of the line.
 fn field_value<'l>(name: &[u8], line: &'l [u8]) -> Option<&'l [u8]>
     ensures { option_map (λ field. field.now) result ≡ field_value name.now line.now }
 {
@@ -316,7 +320,7 @@ fn field_value<'l>(name: &[u8], line: &'l [u8]) -> Option<&'l [u8]>
     }
 }
 
-// How many fields stand before the one of these digits.
+// How many fields are before the one with this number, which is in decimal digits.
 fn fields_before(digits: &[u8]) -> Option<usize>
     ensures { result ≡ fields_before digits.now }
 {
@@ -329,8 +333,8 @@ fn fields_before(digits: &[u8]) -> Option<usize>
     }
 }
 
-/// The field of a line that this number of fields stands before; there is a `*` between fields.
-pub(crate) fn field(before: usize, line: &[u8]) -> Option<&[u8]>
+// The field of a line, by the number of fields before it.
+fn field(before: usize, line: &[u8]) -> Option<&[u8]>
     ensures { option_map (λ field. field.now) result ≡ field before line.now }
 {
     let mut rest = line;
@@ -340,8 +344,5 @@ pub(crate) fn field(before: usize, line: &[u8]) -> Option<&[u8]>
             None => return None,
         }
     }
-    match cut_at(rest, b'*') {
-        Some((field, _)) => Some(field),
-        None => Some(rest),
-    }
+    Some(first_field(rest))
 }

@@ -76,7 +76,7 @@ fn url_by_link(alloc: Global, link: &SourceLink, file: &str) -> Result<String, A
     Ok(url)
 }
 
-// Appends the rest of a file's name, as it stands in a URL.
+// Appends the rest of a file's name, escaped.
 fn push_escaped(url: &mut String, rest: &[u8]) -> Result<(), AllocError>
     ensures { OnOk result (string_bytes url.new ≡ string_bytes url.old ++ escaped rest.now) }
 {
@@ -86,7 +86,7 @@ fn push_escaped(url: &mut String, rest: &[u8]) -> Result<(), AllocError>
     Ok(())
 }
 
-// Appends a byte, as it stands in a URL.
+// Appends a byte of a file's name, escaped.
 fn push_byte(url: &mut String, byte: u8) -> Result<(), AllocError>
     ensures { OnOk result (string_bytes url.new ≡ string_bytes url.old ++ escaped_byte byte) }
 {
@@ -99,7 +99,7 @@ fn push_byte(url: &mut String, byte: u8) -> Result<(), AllocError>
     write!(url, "%{:X}{:X}", byte / 16, byte % 16)
 }
 
-// Whether a byte stands for itself in a URL.
+// Whether a URL has a byte as it is.
 fn is_plain(byte: u8) -> bool
     ensures { result ≡ is_plain byte }
 {

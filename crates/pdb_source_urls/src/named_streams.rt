@@ -16,7 +16,7 @@ use std::alloc::{AllocError, Global};
 /// The name of the Source Link stream that has no number.
 const PLAIN: [u8; 11] = *b"sourcelink\0";
 
-/// The number that is one more than that of the last Source Link stream that is read.
+/// Source Link streams are read up to the number before this one.
 const NUMBERS_END: usize = 64;
 
 /// The name of the stream of source server data.
@@ -98,7 +98,8 @@ fn read_links<S: Source>(
     let mut links = Vec::new(alloc);
     add_named(&mut links, layout, source, info, &PLAIN)?;
     for number in 1..NUMBERS_END {
-        if !add_numbered(&mut links, layout, source, info, number)? {
+        let there = add_numbered(&mut links, layout, source, info, number)?;
+        if !there {
             break;
         }
     }
@@ -126,7 +127,7 @@ fn add_numbered<S: Source>(
     add_named(links, layout, source, info, name.as_bytes())
 }
 
-// Adds the entries of the stream of this name, which has its zero after it. The answer is whether there is such a stream.
+// Adds the entries of the stream of this name, which ends in a zero. The answer is whether there is such a stream.
 fn add_named<S: Source>(
     links: &mut Vec<SourceLink>,
     layout: &MsfLayout,
@@ -159,7 +160,7 @@ fn numbered_name(alloc: Global, number: usize) -> Result<String, AllocError>
     format!(in alloc; "sourcelink${number}\0")
 }
 
-// The bytes of the stream of this name, which has its zero after it, if there is one. A stream that can't be read has none.
+// The bytes of the stream of this name, which ends in a zero, if there is one. A stream that can't be read has none.
 #[tactic(auto, unfolding(crate::specs::NamedStreams::named_bytes))]
 fn load_named<S: Source>(
     alloc: Global,

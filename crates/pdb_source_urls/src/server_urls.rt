@@ -2,14 +2,12 @@
 
 ghost use Rattle.std.specs.Prelude.{◌≡◌, IfOk, map, option_map, string_bytes};
 ghost use Rattle.pdb_source_urls.specs.Expansion.{Gives, value_seen};
-ghost use Rattle.pdb_source_urls.specs.ServerUrls.{file_line, is_line_of, line_url, server_url, target, url_in};
-ghost use Rattle.pdb_source_urls.specs.SourceServer.{definition_seen, server_seen};
+ghost use Rattle.pdb_source_urls.specs.ServerUrls.{file_line, line_url, server_url, target, url_in};
+ghost use Rattle.pdb_source_urls.specs.SourceServer.{definition_seen, file_seen, server_seen};
 
-use crate::expansion::{
-    ExpandError, Expanded, MOST_TEXT, Sources, field, value_of, variable_value,
-};
+use crate::expansion::{ExpandError, Expanded, MOST_TEXT, Sources, value_of, variable_value};
 use crate::file_names::alike;
-use crate::source_server::{SourceServer, Variable};
+use crate::source_server::{FileLine, SourceServer, Variable};
 use std::alloc::{AllocError, Global};
 
 /// How deeply values may nest.
@@ -29,26 +27,16 @@ pub(crate) fn server_url(
     }
 }
 
-// The first line that is that of a file.
-fn file_line<'l>(lines: &'l [Vec<u8>], file: &str) -> Option<&'l [u8]>
-    ensures { option_map (λ line. line.now) result ≡ file_line file.now (map (λ line. line.items) lines.now) }
+// The line of the first source file of this name.
+fn file_line<'f>(files: &'f [FileLine], name: &str) -> Option<&'f [u8]>
+    ensures { option_map (λ line. line.now) result ≡ file_line name.now (map file_seen files.now) }
 {
-    for line in lines {
-        if is_line_of(file, line) {
-            return Some(line);
+    for file in files {
+        if alike(&file.name, name.as_bytes()) {
+            return Some(&file.line);
         }
     }
     None
-}
-
-// Whether a line is that of a file.
-fn is_line_of(file: &str, line: &[u8]) -> bool
-    ensures { result ≡ is_line_of file.now line.now }
-{
-    match field(0, line) {
-        Some(path) => alike(path, file.as_bytes()),
-        None => false,
-    }
 }
 
 // The URL by the line of a file, if there is one.

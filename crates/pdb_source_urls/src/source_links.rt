@@ -12,7 +12,7 @@ use std::alloc::{AllocError, Global};
 /// How many entries of a file count at most.
 const MOST_LINKS: usize = 4096;
 
-/// The byte order mark, which may stand before a text in UTF-8.
+/// The byte order mark, which may precede a text in UTF-8.
 const MARK: [u8; 3] = [0xef, 0xbb, 0xbf];
 
 /// An entry of a Source Link map.
@@ -117,7 +117,7 @@ fn stars(text: &str) -> usize
     text.as_bytes().iter().filter(|byte| **byte == b'*').count()
 }
 
-/// What stands before the first star, or all where there is none.
+/// What is before the first star, or all if there is none.
 pub(crate) fn before_star(text: &str) -> &str
     ensures { result.now ≡ before_first is_star text.now }
 {
@@ -127,7 +127,7 @@ pub(crate) fn before_star(text: &str) -> &str
     }
 }
 
-/// What follows the first star; nothing where there is none.
+/// What follows the first star, or nothing if there is none.
 pub(crate) fn after_star(text: &str) -> &str
     ensures { result.now ≡ after_first is_star text.now }
 {

@@ -1,7 +1,8 @@
 //! Source server data: a text of sections, with variables and a line for each source file.
 
 ghost use Rattle.std.specs.Prelude.{◌≡◌, ◌<◌, [], ◌∷◌, ◌++◌, IfOk, OnOk, length, map, option_map};
-ghost use Rattle.pdb_source_urls.specs.SourceServer.{cut_at, definition_seen, section_of, server_of, server_seen};
+ghost use Rattle.pdb_source_urls.specs.SourceServer.{cut_at, definition_seen, file_of, file_seen, section_of};
+ghost use Rattle.pdb_source_urls.specs.SourceServer.{first_field, server_of, server_seen};
 ghost use Rattle.pdb_source_urls.specs.SourceServer.{with_definition, with_line, with_line_by, without_return};
 ghost use Rattle.pdb_source_urls.specs.SourceServer.{after_line, first_line};
 
@@ -15,8 +16,8 @@ const MOST_DEFINITIONS: usize = 1000;
 pub(crate) struct SourceServer {
     /// In the order of their definitions.
     pub(crate) variables: Vec<Variable>,
-    /// A line for each source file: fields with a `*` between them, the first of which is the file's name.
-    pub(crate) files: Vec<Vec<u8>>,
+    /// In the order of their lines.
+    pub(crate) files: Vec<FileLine>,
 }
 
 /// A variable.
@@ -24,6 +25,15 @@ pub(crate) struct SourceServer {
 pub(crate) struct Variable {
     pub(crate) name: Vec<u8>,
     pub(crate) value: Vec<u8>,
+}
+
+/// A source file.
+#[derive(Drop)]
+pub(crate) struct FileLine {
+    /// The first field of the line.
+    pub(crate) name: Vec<u8>,
+    /// Fields with a `*` between them.
+    pub(crate) line: Vec<u8>,
 }
 
 /// What the lines of a section are.
@@ -104,14 +114,28 @@ fn add_variable(variables: &mut Vec<Variable>, line: &[u8]) -> Result<(), AllocE
     Ok(())
 }
 
-// Adds the line of a file.
-fn add_file(files: &mut Vec<Vec<u8>>, line: &[u8]) -> Result<(), AllocError>
-    ensures { OnOk result (map (λ file. file.items) files.new.items
-        ≡ map (λ file. file.items) files.old.items ++ line.now ∷ []) }
+// Adds the source file of a line.
+fn add_file(files: &mut Vec<FileLine>, line: &[u8]) -> Result<(), AllocError>
+    ensures { OnOk result (map file_seen files.new.items
+        ≡ map file_seen files.old.items ++ file_of line.now ∷ []) }
 {
-    let copy = Vec::from_slice(*files.allocator(), line)?;
-    files.push(copy)?;
+    let alloc = *files.allocator();
+    let file = FileLine {
+        name: Vec::from_slice(alloc, first_field(line))?,
+        line: Vec::from_slice(alloc, line)?,
+    };
+    files.push(file)?;
     Ok(())
+}
+
+/// The first field of a line; there is a `*` between fields.
+pub(crate) fn first_field(line: &[u8]) -> &[u8]
+    ensures { result.now ≡ first_field line.now }
+{
+    match cut_at(line, b'*') {
+        Some((field, _)) => field,
+        None => line,
+    }
 }
 
 // The first line of a text, without its end, and the text after it.

@@ -74,8 +74,8 @@ impl SourceUrls {
         self.read.links.is_empty() && self.read.server.files.is_empty()
     }
 
-    /// The URL of a source file, whose name is as it stands in the PDB file. There is none if the file doesn't say where
-    /// this source file is.
+    /// The URL of a source file, whose name is as the PDB file has it. There is none if the PDB file doesn't say where
+    /// this source file can be fetched. It is an error if memory runs out.
     pub fn url_of(&self, alloc: Global, file: &str) -> Result<Option<String>, AllocError>
         ensures { IfOk result (λ url. option_map string_bytes url ≡ url_of self.now file.now) }
     {

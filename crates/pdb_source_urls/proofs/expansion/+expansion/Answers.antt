@@ -4,17 +4,16 @@ use Rattle.pdb_source_urls.specs.Expansion.{expand, found_seen, given, value_see
 use Rattle.pdb_source_urls.proofs.ExpansionLemmas.{expand_is, expand_long, expand_none, from_end, from_nothing}
 use Rattle.pdb_source_urls.proofs.ExpansionLemmas.{passed_on, step_fails, step_kept}
 use Rattle.pdb_source_urls.proofs.expansion.+expansion.Goals as goal
-use Rattle.pdb_source_urls.proofs.expansion.+expansion.Goals.{expand-then-depth-eq0-via-then-depth-eq0}
-use Rattle.pdb_source_urls.proofs.expansion.+expansion.Goals.{expand-then-depth-eq0-via-else-depth-eq0+then-text-gt-MOST_TEXT}
-use Rattle.pdb_source_urls.proofs.expansion.+expansion.Goals.{expand-else-loop-step-test, expand-then-loop-step-test+in_default}
+use Rattle.pdb_source_urls.proofs.expansion.+expansion.Goals.{expand-else-loop-step-test}
+use Rattle.pdb_source_urls.proofs.expansion.+expansion.Goals.{expand-then-loop-step-test+in_default}
 
 pub expand-returns-then-depth-eq0 : goal.expand-returns-then-depth-eq0
-expand-returns-then-depth-eq0 t c = elim c.then-depth-eq0.branch [
-  | expand-then-depth-eq0-via-then-depth-eq0 w ↦
-      rw w.if-depth-eq0.true (expand_none (given c.args.sources) c.args.text.now c.args.used)
-  | expand-then-depth-eq0-via-else-depth-eq0+then-text-gt-MOST_TEXT w ↦
-      expand_long c.args.depth (given c.args.sources) c.args.text.now c.args.used w.if-text-gt-MOST_TEXT.true
-]
+expand-returns-then-depth-eq0 t c =
+    rw c.if-depth-eq0.true (expand_none (given c.args.sources) c.args.text.now c.args.used)
+
+pub expand-returns-then-text-gt-MOST_TEXT : goal.expand-returns-then-text-gt-MOST_TEXT
+expand-returns-then-text-gt-MOST_TEXT t c =
+    expand_long c.args.depth (given c.args.sources) c.args.text.now c.args.used c.if-text-gt-MOST_TEXT.true
 
 pub expand-returns-in_err-part : goal.expand-returns-in_err-part
 expand-returns-in_err-part t c =

@@ -1,4 +1,4 @@
--- The parenthesis that closes stands where it does in what is left, after the bytes so far, of which each may open one.
+-- The parenthesis that closes is found in the bytes that are left. Each byte so far has opened at most one.
 use Rattle.std.proofs.Common.{◌≡◌, ◌+◌, ◌≤◌, drop, option_map}
 use Rattle.pdb_source_urls.specs.Expansion.{closing}
 use Rattle.pdb_source_urls.proofs.expansion.closed.Given as goal

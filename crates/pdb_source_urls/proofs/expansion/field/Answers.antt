@@ -1,4 +1,4 @@
--- The field stands after one more `*`.
+-- The field is after one more `*`.
 use Rattle.std.proofs.Common.{◌∙◌, sym}
 use Rattle.pdb_source_urls.proofs.ExpansionLemmas.{field_more}
 use Rattle.pdb_source_urls.proofs.expansion.field.Goals as goal

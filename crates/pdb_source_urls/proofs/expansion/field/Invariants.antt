@@ -1,4 +1,4 @@
--- The field stands in the rest of the line, with so many fewer fields before it.
+-- The field is in the rest of the line, with so many fewer fields before it.
 use Rattle.std.proofs.Common.{◌≡◌, ◌-◌}
 use Rattle.pdb_source_urls.specs.Expansion.{field}
 use Rattle.pdb_source_urls.proofs.expansion.field.Given as goal

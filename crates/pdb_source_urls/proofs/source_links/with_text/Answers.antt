@@ -13,7 +13,8 @@ returns-in-Ok c =
     let cut = c.without_mark.ensures in
     let utf8 : IsUtf8 (without_mark c.args.stream.now) = rw (← cut) c.in-Ok.ensures.ok.0 in
     let is_read : read (without_mark c.args.stream.now) ≡ Some (view c.in-Ok.value) = rw (← cut) c.in-Ok.ensures.ok.1 in
-    rw (text_read c.args.stream.now (view c.in-Ok.value) (map link_seen c.args.links.now.items) utf8 is_read) c.with_value.ensures
+    rw (text_read c.args.stream.now (view c.in-Ok.value) (map link_seen c.args.links.now.items) utf8 is_read)
+    c.with_value.ensures
 
 pub returns-in-Err-2 : goal.returns-in-Err-2
 returns-in-Err-2 c =

@@ -1,4 +1,4 @@
--- The first such byte stands where it does in what is left, after the bytes so far.
+-- The first such byte is found in the bytes that are left.
 use Rattle.std.proofs.Common.{◌≡◌, ◌+◌, drop, option_map}
 use Rattle.pdb_source_urls.specs.SourceServer.{place_of}
 use Rattle.pdb_source_urls.proofs.source_server.cut_at.Given as goal
