@@ -1,4 +1,4 @@
-//! The answer of one request: the frames of an address of code, or that nothing is known.
+//! The answer to one request: the frames at a code address, or that nothing is known.
 
 ghost use Rattle.std.specs.Prelude.{◌≡◌, ℕ, List, IfErr, IfOk, option_map, string_bytes};
 ghost use Rattle.pdb_answer_printer.specs.AnswerText.{answer_text, unknown_text};
@@ -22,7 +22,7 @@ use pdb_session::{QuestionError, SessionContext};
 use std::alloc::{AllocError, Global};
 use std::rt::Files;
 
-/// The answer of a text that asks for something.
+/// Answers a request, which is a word of the command line or a line of the input.
 pub fn request_text<R: Files + Eprint + AllocGlobal>(
     rt: &R,
     questions: &Questions<'_, '_>,
@@ -40,7 +40,7 @@ pub fn request_text<R: Files + Eprint + AllocGlobal>(
     answer_request(rt, questions, context, state, &request, given)
 }
 
-/// The answer of a request, which this text was.
+/// Answers a parsed request. `given` is its text.
 fn answer_request<R: Files + Eprint + AllocGlobal>(
     rt: &R,
     questions: &Questions<'_, '_>,
@@ -67,7 +67,7 @@ fn answer_request<R: Files + Eprint + AllocGlobal>(
     }
 }
 
-// The answer of a request of which nothing is known.
+// The text of an answer that says that nothing is known.
 fn text_of_unknown(
     alloc: Global,
     options: &Options<'_>,
@@ -80,7 +80,7 @@ fn text_of_unknown(
     Ok(text)
 }
 
-/// Says on standard error why a text asks for nothing, unless it is empty.
+/// Says on standard error why a text isn't a request, unless it is empty.
 pub fn print_lack<R: Eprint>(rt: &R, request: &InputLine<'_>, given: &str) {
     if let InputTarget::Nowhere(lack) = request.place
         && let Some(why) = lack.words()
@@ -89,7 +89,7 @@ pub fn print_lack<R: Eprint>(rt: &R, request: &InputLine<'_>, given: &str) {
     }
 }
 
-// The answer of an address of code, with lines of source files where these are asked for.
+// The text of the answer for a code address, with source lines if the options ask for them.
 fn text_of_found<R: Files + AllocGlobal>(
     rt: &R,
     options: &Options<'_>,
@@ -108,7 +108,7 @@ fn text_of_found<R: Files + AllocGlobal>(
     Ok(text)
 }
 
-// The lines around the place of each frame; none where none are asked for.
+// The source lines around each frame's line; empty if the options ask for none.
 fn sources_of<R: Files + AllocGlobal>(
     rt: &R,
     options: &Options<'_>,
