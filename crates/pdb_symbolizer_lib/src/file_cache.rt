@@ -1,5 +1,4 @@
-//! `FileCache`: values by file, kept between requests; the least recently used are dropped at a limit of bytes and
-//! files.
+//! `FileCache`: a value for each file, kept between requests. The least recently used values are dropped at a limit.
 
 use crate::file_stamps::FileStamp;
 use lru::LruCache;

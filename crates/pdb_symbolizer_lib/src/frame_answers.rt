@@ -131,7 +131,7 @@ fn sources_of<R: Files + AllocGlobal>(
     Ok(sources)
 }
 
-/// The frames of an address, of which the last has the name that the options want.
+/// The frames at an address. The last one, the containing function, is named as the options want.
 fn frames_at<'a, R: Eprint + AllocGlobal>(
     rt: &R,
     questions: &Questions<'_, '_>,
@@ -155,7 +155,7 @@ fn frames_at<'a, R: Eprint + AllocGlobal>(
     Ok(public_named(rt.alloc(), questions.names, found)?)
 }
 
-// Frames whose function goes by its public name, where that is known.
+// Gives the containing function its public symbol's name, if the options want that name and it is known.
 fn public_named<'a>(
     alloc: Global,
     names: &PublicNames,
@@ -169,8 +169,8 @@ fn public_named<'a>(
     }
 }
 
-// The frames of an address. Where the records of its module can't be read that is shown on standard error, with the
-// address as it was given.
+// The frames at an address. If its module's records can't be read, an error on standard error shows the address as it
+// was given.
 fn readable_frames<'a, R: Eprint>(
     rt: &R,
     context: &mut SessionContext<'a, '_>,
