@@ -85,7 +85,7 @@ impl<'a> ItemReader<'a> for Annotations<'a> {
     }
 }
 
-// The annotation of this kind in such a list, with its numbers.
+// Reads an annotation of this kind, with its numbers.
 fn take_annotation(
     list: &Annotations<'_>,
     kind: u32,

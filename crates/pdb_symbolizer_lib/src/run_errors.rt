@@ -93,7 +93,7 @@ pub enum RunError {
     /// An answer could not be written.
     #[error("cannot write")]
     CannotWrite,
-    /// Nobody reads the answers any more.
+    /// The reader of the output is gone.
     #[error("nobody reads")]
     ClosedPipe,
 }
