@@ -1,4 +1,4 @@
-//! The pieces of text that signatures are made of: words, names, notes of what is missing.
+//! `Wording`: the pieces of text in signatures: words, names, and notes on missing types.
 
 ghost use Rattle.std.specs.Prelude.{◌≡◌, ◌++◌, OnOk, string_bytes};
 ghost use Rattle.pdb_records.specs.Names.{lossy};
@@ -16,28 +16,28 @@ use pdb_records::{ClassKind, PrimitiveType, RawString, TypeIndex};
 use pdb_types::TypeFormatterFlags;
 use std::alloc::AllocError;
 
-/// A piece of a signature that is known as it stands.
+/// A piece of a signature that needs no further reading.
 #[derive(Drop)]
 pub enum Wording<'s> {
     /// This text.
     Text(&'s str),
-    /// A note of a type or an id that is missing.
+    /// A note on a missing type or id.
     MissingType(u32),
-    /// A note of a type or an id of a kind that the reader of the records doesn't know.
+    /// A note on a type or id of a kind that the reader of the records doesn't know.
     UnimplementedKind(u16),
-    /// A note of a type of a kind that is read and not printed.
+    /// A note on a type of a known kind that isn't printed.
     UnhandledKind(&'s str),
-    /// What stands for a scope of a kind that is read and not printed.
+    /// A note in place of a scope of a known kind that isn't printed.
     UnhandledScope(&'s str),
-    /// A name, with the word that it was declared with before it unless names stand alone.
+    /// A name, after `class`, `union` or a similar word unless the flags omit that.
     Declared(&'static str, &'s RawString),
     /// The name of a function, or a note where it is empty.
     FunctionName(&'s RawString),
     /// The name of a namespace.
     Namespace(&'s RawString),
-    /// A type that the compiler brings, constant or not.
+    /// A primitive type, and whether it is constant.
     Primitive(PrimitiveType, bool),
-    /// The pointers to a function, which stand in parentheses; the last collected stands last.
+    /// The pointers to a function, which are in parentheses; the last collected comes last.
     Pointers(Vec<Attribute>),
     /// The dimensions of an array, by the sizes of its levels and of its base.
     Dimensions(Vec<u32>, u64),

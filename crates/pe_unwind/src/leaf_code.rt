@@ -1,5 +1,4 @@
-//! Finds the code of leaf functions, which don't move the stack pointer and so have no entry in the exception
-//! directory.
+//! Finds the code of leaf functions: code that no entry of the exception directory covers.
 
 ghost use Rattle.std.specs.Prelude.{◌≡◌, ◌++◌, ◌-◌, ◌≤◌, ◌<◌, ℕ, List, IfOk, OnOk, filter, not, string_bytes, true};
 ghost use Rattle.std.specs.List.{flat_map, list_all, list_any};
