@@ -107,8 +107,8 @@ impl<'a, P: ModuleProvider> TypeFormatter<'a, P> {
         }
     }
 
-    // Prints the signature of a function with this name, and the type of this index as the module at a
-    // module index writes it.
+    // Prints the signature of a function with this name. The index of its type is one that the module at a module index
+    // uses.
     pub(crate) fn print_function(
         &mut self,
         name: &str,

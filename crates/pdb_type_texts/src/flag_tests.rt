@@ -7,7 +7,7 @@ ghost use Rattle.pdb_type_texts.specs.FlagTests.{with_space_before_pointer, with
 use bitflags::Flags;
 use pdb_types::TypeFormatterFlags;
 
-/// Whether functions are printed without the type that they return.
+/// Whether functions are printed without their return type.
 pub fn without_return_type(flags: TypeFormatterFlags) -> bool
     ensures { result ≡ without_return_type flags }
 {
