@@ -44,7 +44,7 @@ formatter_refusal debug =
     first_refusal (option_map (λ fault. PdbError (Stream fault)) debug.modules.fault) (
     stream_refusal debug.machine_type)
 
--- the flags where none are chosen: no return types, no `static`, a space after commas, and names alone
+-- the flags if none are chosen: no return types, no `static`, a space after commas, and names alone
 abbrev pub default_flags : TypeFormatterFlags
 default_flags = record { 0 = 23 }
 

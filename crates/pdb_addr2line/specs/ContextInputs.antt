@@ -17,8 +17,8 @@ use Rattle.pdb_frames.specs.CodeParts.{CodeParts}
 use Rattle.pdb_functions.specs.MergedContributions.{merged_contributions}
 use Rattle.pdb_functions.specs.GlobalFunctions.{GlobalFunction, global_functions}
 
--- what a context was made of: records for look-ups, and the type inputs of its formatter, whose list of modules
--- look-ups go by too
+-- what a context was made of: records for lookups, and the type inputs of its formatter, whose list of modules lookups
+-- go by too
 pub record ContextInputs (P : Type 0) : Type 0 where
   pub provider : P
   pub sections : List ImageSectionHeader
@@ -43,7 +43,7 @@ contributions_of s = result_unwrap_or (merged_contributions s.sections s.debug_i
 abbrev pub global_functions_of : {P : Type 0} → ContextInputs P → List GlobalFunction
 global_functions_of s = global_functions s.sections s.global_symbols.symbols.items s.debug_information
 
--- the merged contributions that look-ups search: refused for the fault of the global symbols, then as merging refuses
+-- the merged contributions that lookups search: refused for the fault of the global symbols, then as merging refuses
 abbrev pub searched_contributions : List ImageSectionHeader → SymbolTable → DebugInformation
     → Result (List ModuleSectionContribution) Error
 searched_contributions sections global_symbols debug =

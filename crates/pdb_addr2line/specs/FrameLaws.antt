@@ -17,7 +17,7 @@ use Rattle.pdb_function_info.specs.Function.{FunctionInfo}
 abbrev pub sites_of : ModuleInfo → ModuleProcedure → List Site
 sites_of info p = (walk info.symbols.items info.symbols.fault p.symbol_index.0 p.end_symbol_index.0).sites
 
--- at how many depths the rows of inline sites of a function cover an offset: at none where there are no records of its
+-- at how many depths the rows of inline sites of a function cover an offset: at none if there are no records of its
 -- module, and at none in a global function
 abbrev pub levels_over : Option ModuleInfo → FunctionMatch → ℕ → ℕ
 levels_over None found x = 0

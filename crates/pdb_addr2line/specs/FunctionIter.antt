@@ -27,7 +27,7 @@ start_section_offsets info s =
     map (λ f. f.start) (global_functions_of s)
     ++ map (λ p. p.offset) (procedures_of_modules (info s.provider) 0 s.type_inputs.modules)
 
--- addresses in order, and among them that of a section offset, where it has one
+-- addresses in order, and among them that of a section offset, if it has one
 abbrev pub with_start : List AddressRange → List ℕ → PdbInternalSectionOffset → List ℕ
 with_start sections starts section_offset =
     option_map_or (λ address. insert_key nat_cmp starts address.0) (rva sections section_offset) starts
@@ -40,7 +40,7 @@ with_starts sections starts section_offsets = fold (with_start sections) starts 
 abbrev pub start_addresses : {P : Type 0} → (P → ProviderInfos) → ContextInputs P → List ℕ
 start_addresses info s = with_starts s.address_map [] (start_section_offsets info s)
 
--- the functions over these addresses, where there are any
+-- the functions over these addresses, if there are any
 abbrev pub functions_at : {P : Type 0} → (P → ProviderInfos) → ContextInputs P → List ℕ → List FunctionInfo
 functions_at info s addresses = filter_map (function_at info s) addresses
 

@@ -47,8 +47,8 @@ pub record Fails {P : Type 0} (info : P → ProviderInfos) (before after : Conte
   pub memory : error ≡ OutOfMemory
   pub interrupted : OnlyGainsBroken info between after
 
--- the answer next for untried addresses, where others are left then: the first function, or out of memory; nothing
--- where no function lies over any of them
+-- the answer next for untried addresses, where others are left then: the first function, or out of memory; nothing if
+-- no function lies over any of them
 abbrev pub Continues : {P : Type 0} → (P → ProviderInfos) → ContextState P → ContextState P → List ℕ → List ℕ
     → Option (Result Function Error) → Type 0
 Continues info before after all left (Some (Ok function)) = Finds info before after all left (function_view function)

@@ -13,21 +13,21 @@ use Rattle.pdb_addr2line.specs.Lookups.{found_at, function_at, frames_answered}
 abbrev pub symbol_name_at : {P : Type 0} → (P → ProviderInfos) → ContextInputs P → ℕ → Option (List ℕ)
 symbol_name_at info s address = option_and_then symbol_name (found_at info s address)
 
--- a function, by this name where it has none
+-- a function, by this name if it has none
 abbrev pub named_function : Option (List ℕ) → FunctionInfo → FunctionInfo
 named_function name f = record f { name = option_or f.name name }
 
--- a frame, by this name where it has none
+-- a frame, by this name if it has none
 abbrev pub named_frame : Option (List ℕ) → FrameInfo → FrameInfo
 named_frame name f = record f { function = option_or f.function name }
 
--- frames, of which the last goes by this name where it has none
+-- frames, of which the last goes by this name if it has none
 abbrev pub named_last : Option (List ℕ) → List FrameInfo → List FrameInfo
 named_last name [] = []
 named_last name (f ∷ []) = named_frame name f ∷ []
 named_last name (f ∷ next ∷ rest) = f ∷ named_last name (next ∷ rest)
 
--- the frames of a function, which goes by this name where it has none
+-- the frames of a function, which goes by this name if it has none
 abbrev pub named_frames : Option (List ℕ) → FramesInfo → FramesInfo
 named_frames name f = record f { frames = named_last name f.frames }
 
@@ -35,7 +35,7 @@ named_frames name f = record f { frames = named_last name f.frames }
 abbrev pub named_function_at : {P : Type 0} → (P → ProviderInfos) → ContextInputs P → ℕ → Option FunctionInfo
 named_function_at info s address = option_map (named_function (symbol_name_at info s address)) (function_at info s address)
 
--- an answer of frames, whose function goes by this name where it has none
+-- an answer of frames, whose function goes by this name if it has none
 abbrev pub named_answer : Option (List ℕ) → Result (Option FramesInfo) Error → Result (Option FramesInfo) Error
 named_answer name (Ok found) = Ok (option_map (named_frames name) found)
 named_answer name (Err error) = Err error

@@ -83,7 +83,7 @@ refusal_of_container container.CutShort = CutShort
 refusal_of_container container.StreamsTooLong = StreamsTooLong
 refusal_of_container container.OutOfMemory = OutOfMemory
 
--- what is answered where nothing can be answered over the records of a PDB file
+-- what is answered if nothing can be answered over the records of a PDB file
 abbrev pub refusal_of_file : told.PdbFileError → CallError
 refusal_of_file file.OfObjects = OfObjects
 refusal_of_file (file.OldTypes version) = OldTypes

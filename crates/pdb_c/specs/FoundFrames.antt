@@ -16,7 +16,7 @@ pub record Shown : Type 0 where
   pub rows : List FrameRow
   pub texts : List ℕ
 
--- what is shown of the frames over an address; nothing where no function lies there
+-- what is shown of the frames over an address; nothing if no function lies there
 abbrev pub shown : Option FramesInfo → Shown
 shown None = record { start = 0; end = None; rows = []; texts = [] }
 shown (Some found) = record {

@@ -41,7 +41,7 @@ holds_for alloc records_at context_at context held =
     fsep (flft (held.0 ∷ []) full_share)
     (fsep (lends_records alloc records_at held.0 held.1) (owns_context alloc context_at held.0 context))
 
--- a handle's second pointer is null where nothing is held, and else the two lead to records and a context over them
+-- a handle's second pointer is null if nothing is held, and else the two lead to records and a context over them
 abbrev pub holds : Global → Ptr → Ptr → Option (ContextState Records) → Fml
 holds alloc records_at context_at None = feq Ptr context_at null_ptr
 holds alloc records_at context_at (Some context) =

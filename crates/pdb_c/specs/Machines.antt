@@ -10,7 +10,7 @@ use Rattle.pdb_c.specs.declared.call_error.CallError.TheVariants.{NoDebugId}
 use Rattle.pdb_c.specs.CallError.{code, refusal_of_container}
 use Rattle.pdb_c.specs.ReportTexts.{Agrees, with_refusal}
 
--- the number of the processor in a file's identity: 0 where that says none, and refused where there is no identity
+-- the number of the processor in a file's identity: 0 where that says none, and refused if there is no identity
 abbrev pub number_in : Option PdbIdentity → Result ℕ CallError
 number_in None = Err NoDebugId
 number_in (Some found) = Ok (option_map_or (λ machine. machine.0) found.machine 0)

@@ -81,7 +81,7 @@ IsLeftWithText (Ok answer) before after command addresses =
     after ≡ after_calls infos before (report_calls command addresses)
 IsLeftWithText (Err refusal) before after command addresses = IsLeftEarly before after command addresses refusal
 
--- the same, and as before where there are no addresses
+-- the same, and as before if there are no addresses
 abbrev pub IsLeftByReport : {A : Type 0} → Result A CallError → (before after : ContextState Records) → Command → List ℕ
     → Type 0
 IsLeftByReport result before after command [] = after ≡ before
@@ -109,7 +109,7 @@ abbrev pub LeavesHandle : {A : Type 0} → Result A CallError → Option (Contex
 LeavesHandle result None asked held' = held' ≡ None
 LeavesHandle result (Some context) asked held' = HoldsSo (IsLeftBy result context asked) held'
 
--- the text that a handle is asked for: refused where it is closed, and where there are no addresses
+-- the text that a handle is asked for: refused where it is closed, and if there are no addresses
 abbrev pub text_of_handle : Command → Option (ContextState Records) → List ℕ → Result (List ℕ) CallError
 text_of_handle command None addresses = Err Closed
 text_of_handle command (Some context) addresses = report_asked command context addresses

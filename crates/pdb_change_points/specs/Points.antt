@@ -11,7 +11,7 @@ use Rattle.pdb_functions.specs.Procedures.{ModuleProcedure}
 use Rattle.pdb_functions.specs.declared.merged_contributions.ModuleSectionContribution.{ModuleSectionContribution}
 use Rattle.pdb_inline.specs.declared.inline_ranges.InlineRange.{InlineRange}
 
--- an address as a change point: none where there is no address
+-- an address as a change point: none if there is no address
 abbrev pub point_of : Option Rva → List ℕ
 point_of None = []
 point_of (Some address) = address.0 ∷ []

@@ -26,7 +26,7 @@ abbrev pub first_refusal : Option Error → Option Error → Option Error
 first_refusal None later = later
 first_refusal (Some error) later = Some error
 
--- what is answered where nothing refuses
+-- what is answered if nothing refuses
 abbrev pub unless : {A : Type 0} → Option Error → Result A Error → Result A Error
 unless None answer = answer
 unless (Some error) answer = Err error

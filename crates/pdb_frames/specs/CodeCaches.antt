@@ -51,8 +51,8 @@ procedure_cmp a b =
     ordering_then (nat_cmp a.module_index b.module_index) (
     ordering_then (nat_cmp a.symbol b.symbol) (nat_cmp a.end b.end))
 
--- the ranges of a procedure's code that came from inlined bodies, by the records of its module: refused for what is
--- known of the module's code, and then for the procedure's ranges
+-- the ranges of a procedure's code that came from inlined bodies, by the records of its module: refused for the records
+-- of the module's code, and then for the procedure's ranges
 abbrev pub procedure_ranges : ModuleInfo → ℕ → ℕ → Result (List InlineRange) Error
 procedure_ranges info symbol end =
     and_then (extended_info info) (λ known. procedure_inline_ranges known.inlinees info symbol end)

@@ -32,8 +32,8 @@ function_ranges inlinees info (found_global m f) = Ok []
 function_ranges inlinees info (found_procedure m p) =
     procedure_inline_ranges inlinees info p.symbol_index.0 p.end_symbol_index.0
 
--- where the code at an offset of a function comes from, by the records of the function's module: refused for what is
--- known of the module's code, then for the function's line rows, and then for its inline ranges
+-- where the code at an offset of a function comes from, by the records of the function's module: refused for the
+-- records of the module's code, then for the function's line rows, and then for its inline ranges
 abbrev pub code_location : ModuleInfo → FunctionMatch → ℕ → Result CodeLocation Error
 code_location info found x =
     and_then (extended_info info) (λ known.

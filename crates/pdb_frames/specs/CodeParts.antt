@@ -62,14 +62,14 @@ abbrev pub is_refused : {A E : Type 0} → Result A E → Bool
 is_refused (Ok answer) = false
 is_refused (Err e) = true
 
--- the part that is to blame where it is refused where a function's code comes from, once it is known what is known of
--- the module's code: the function's lines, else its inline ranges
+-- the part that is to blame where it is refused where a function's code comes from, once the records of the module's
+-- code are known: the function's lines, else its inline ranges
 abbrev pub blame_after_info : ℕ → PdbInternalSectionOffset → Result Lines Error → CodePart
 blame_after_info m start (Ok program) =
     if is_refused (function_rows program start) then part.Lines m start else part.InlineRanges m start
 blame_after_info m start (Err e) = part.ExtendedInfo m
 
--- the part that is to blame where it is refused where a function's code comes from: what is known of the module's code,
+-- the part that is to blame where it is refused where a function's code comes from: the records of the module's code,
 -- then the function's lines, then its inline ranges
 abbrev pub part_to_blame : ModuleInfo → FunctionMatch → CodePart
 part_to_blame info found =

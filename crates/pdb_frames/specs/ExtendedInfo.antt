@@ -29,8 +29,8 @@ id_cmp a b = nat_cmp a.0 b.0
 abbrev pub inlinee_ids : List Inlinee → List IdIndex
 inlinee_ids inlinees = fold (λ ids inlinee. insert_key id_cmp ids inlinee.index) [] inlinees
 
--- what is known of a module's code: refused for a line program that could not be read, and then for the fault of the
--- list of inlinees
+-- the records of a module's code: refused for a line program that could not be read, and then for the fault of the list
+-- of inlinees
 abbrev pub extended_info : ModuleInfo → Result ExtendedInfo Error
 extended_info info =
     and_then (streamed info.line_program) (λ line_program.

@@ -9,7 +9,7 @@ use Rattle.pdb_records.specs.declared.strings.StringRef.{StringRef}
 use Rattle.pdb_frames.specs.SourceFiles.{FileName, file_name_of, as_file_name, borrowed_name}
 use Rattle.pdb_frames.specs.declared.lent_names.LentName.{LentName}
 
--- the texts of a string table by their references, where there is one
+-- the texts of a string table by their references, if there is one
 abbrev pub Strings : Type 0
 Strings = Option (List (StringRef × List ℕ))
 

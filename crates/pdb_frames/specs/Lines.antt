@@ -36,8 +36,8 @@ row_over rows x = pick (λ row. nat_le row.offset x) (λ row. row.offset) rows
 abbrev pub function_row : Lines → PdbInternalSectionOffset → ℕ → Result (Option LineInfo) Error
 function_row program start x = and_then (function_rows program start) (λ rows. Ok (row_over rows x))
 
--- the name of a file of a module: the string under the reference that the file's record has. It is absent where there
--- is no string table, no such record, or no such string
+-- the name of a file of a module: the string under the reference that the file's record has. It is absent if there is
+-- no string table, no such record, or no such string
 abbrev pub file_name : Option (List (StringRef × List ℕ)) → Lines → FileIndex → Option FileName
 file_name strings program index =
     option_and_then (λ table.

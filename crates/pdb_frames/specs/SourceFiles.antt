@@ -10,7 +10,7 @@ pub record FileName : Type 0 where
   pub text : List ℕ
   pub is_borrowed : Bool
 
--- the text of a file name, where there is one
+-- the text of a file name, if there is one
 abbrev pub known_text : Option FileName → Option (List ℕ)
 known_text name = option_map (λ n. n.text) name
 

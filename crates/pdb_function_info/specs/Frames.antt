@@ -26,11 +26,11 @@ use Rattle.pdb_function_info.specs.NameTexts.{function_name, failed_by_function_
 use Rattle.pdb_frames.specs.CodeLocations.{CodeLocation, code_location}
 use Rattle.pdb_functions.specs.FunctionMatches.{function_module, function_start}
 
--- the string table of a program, where it has one
+-- the string table of a program, if it has one
 abbrev pub Strings : Type 0
 Strings = Option (List (StringRef × List ℕ))
 
--- the frame of a function itself: its name, and the file and the line of the row over the offset, where there is one
+-- the frame of a function itself: its name, and the file and the line of the row over the offset, if there is one
 abbrev pub own_frame : Strings → Option (List ℕ) → Lines → Option LineInfo → FrameInfo
 own_frame strings name program row = record {
   function = name;
@@ -58,7 +58,7 @@ code_location_frames strings name_of name o =
     reverse (inlined_frames strings o.line_program name_of o.stack)
     ++ own_frame strings name o.line_program o.row ∷ []
 
--- the frames of a function of this name at an offset: where there are no records of its module, the one frame of the
+-- the frames of a function of this name at an offset: if there are no records of its module, the one frame of the
 -- function, without a file and a line; else those of where the code comes from, refused as that is
 abbrev pub function_frames : Strings → (IdIndex → Option (List ℕ)) → Option (List ℕ) → Option ModuleInfo
     → FunctionMatch → ℕ → Result (List FrameInfo) Error
@@ -67,8 +67,8 @@ function_frames strings name_of name None found x =
 function_frames strings name_of name (Some info) found x =
     and_then (code_location info found x) (λ o. Ok (code_location_frames strings name_of name o))
 
--- the size of a function in bytes, where it is known: a global function reaches to the next one of its section, if
--- there is one
+-- the size of a function in bytes, if it is known: a global function reaches to the next one of its section, if there
+-- is one
 abbrev pub function_size : List GlobalFunction → FunctionMatch → Option ℕ
 function_size globals (found_procedure m p) = Some p.len
 function_size globals (found_global m f) =
@@ -93,8 +93,8 @@ info_of_frames info type_inputs strings sections globals records found x =
 abbrev pub failed_by_ids : (IdIndex → Parts → Parts) → List InlineRange → Parts → Parts
 failed_by_ids failed_by ranges failed = fold (λ before range. failed_by range.inlinee before) failed ranges
 
--- the inlined bodies over an offset of a function: none where there are no records of its module, and where it is
--- refused where the code comes from
+-- the inlined bodies over an offset of a function: none if there are no records of its module, and where it is refused
+-- where the code comes from
 abbrev pub bodies_over : Option ModuleInfo → FunctionMatch → ℕ → List InlineRange
 bodies_over records found x =
     option_map_or (λ o. o.stack) (option_and_then (λ info. result_ok (code_location info found x)) records) []

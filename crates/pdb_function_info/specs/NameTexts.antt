@@ -23,7 +23,7 @@ abbrev pub is_decorated : List ℕ → Bool
 is_decorated [] = false
 is_decorated (c ∷ cs) = c == 63
 
--- the decorated name of a global function, where it has one
+-- the decorated name of a global function, if it has one
 abbrev pub decorated_name : GlobalFunction → Option (List ℕ)
 decorated_name f = option_and_then (λ name. if is_decorated name then Some (lossy name) else None) f.name
 
@@ -74,7 +74,7 @@ abbrev pub function_name : {P : Type 0} → (P → ProviderInfos) → TypeInputs
 function_name info type_inputs globals (found_global m f) = option_map lossy f.name
 function_name info type_inputs globals (found_procedure m p) = procedure_name info type_inputs globals m p
 
--- the name of the symbol of a function that was found, as text: a procedure's, or a global function's, where it has one
+-- the name of the symbol of a function that was found, as text: a procedure's, or a global function's, if it has one
 abbrev pub symbol_name : FunctionMatch → Option (List ℕ)
 symbol_name (found_global m f) = option_map lossy f.name
 symbol_name (found_procedure m p) = Some (lossy p.name)

@@ -14,7 +14,7 @@ use Rattle.pdb_functions.specs.CodeSections.{is_executable, section_ends}
 use Rattle.pdb_functions.specs.MergedContributions.{contribution_starts}
 use Rattle.pdb_functions.specs.Starts.{first_of_each_start}
 
--- where a function starts, and its name where it has one
+-- where a function starts, and its name if it has one
 pub record GlobalFunction : Type 0 where
   pub start : PdbInternalSectionOffset
   pub name : Option (List ℕ)

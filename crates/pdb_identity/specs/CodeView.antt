@@ -16,7 +16,7 @@ code_view_id bytes =
     option_and_then (λ guid. option_map (debug_id guid) (number_at 4 bytes 20)) (bytes_at bytes 4 16) else None)
     (number_at 4 bytes 0)
 
--- the bytes before the first zero, or all where there is none
+-- the bytes before the first zero, or all if there is none
 abbrev pub before_zero : List ℕ → List ℕ
 before_zero [] = []
 before_zero (byte ∷ bytes) = if byte == 0 then [] else byte ∷ before_zero bytes

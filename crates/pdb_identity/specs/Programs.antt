@@ -29,7 +29,7 @@ abbrev pub code_view_by : Program → DebugEntry → Option CodeViewRecord
 code_view_by program entry =
     if entry.kind == image_debug_type_codeview then option_and_then code_view (debug_data program entry) else None
 
--- what a record says, or where there is none another
+-- what a record says, or if there is none another
 abbrev pub or_else : Option CodeViewRecord → Option CodeViewRecord → Option CodeViewRecord
 or_else (Some found) other = Some found
 or_else None other = other

@@ -38,7 +38,7 @@ abbrev pub depths : List InlineRange → ℕ
 depths [] = 0
 depths (range ∷ ranges) = max (range.call_depth + 1) (depths ranges)
 
--- the range that is picked at a depth, and those of the depths below it; none where there is no range
+-- the range that is picked at a depth, and those of the depths below it; none if there is no range
 abbrev pub with_outer : Option InlineRange → List InlineRange → List InlineRange
 with_outer None inner = []
 with_outer (Some range) inner = range ∷ inner

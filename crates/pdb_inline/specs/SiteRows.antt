@@ -9,7 +9,7 @@ use Rattle.pdb_records.specs.declared.symbols.InlineSiteSymbol.{InlineSiteSymbol
 abbrev pub has_id : List IdIndex → IdIndex → Bool
 has_id ids id = list_any (λ other. other.0 == id.0) ids
 
--- the size of a row's code, 0 where it isn't known
+-- the size of a row's code, 0 if it isn't known
 abbrev pub row_length : InlineRow → ℕ
 row_length row = unwrap_or row.length 0
 

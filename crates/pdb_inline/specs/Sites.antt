@@ -52,7 +52,7 @@ pub record Walk : Type 0 where
   pub sites : List Site
   pub fault : Option StreamError
 
--- where what is open ends first: the innermost site, or the procedure where no site is open
+-- where what is open ends first: the innermost site, or the procedure if no site is open
 abbrev pub innermost_end : ℕ → List OpenSite → ℕ
 innermost_end end [] = end
 innermost_end end (site ∷ outer) = site.end
@@ -72,7 +72,7 @@ open_after at (Some symbol) outer = record { position = at; end = symbol.end.0 }
 abbrev pub opened_at : ℕ → List OpenSite → InlineSiteSymbol → Site
 opened_at at outer symbol = record { position = at; outer = map (λ site. site.position) outer; symbol = symbol }
 
--- a walk that finds a site first, where there is one
+-- a walk that finds a site first, if there is one
 abbrev pub found_first : Option Site → Walk → Walk
 found_first site rest = record rest { sites = option_to_list site ++ rest.sites }
 

@@ -19,12 +19,12 @@ with_stack positions segment = record {
 abbrev pub with_stacks : List ℕ → List (Segment (ℕ × ℕ)) → List (Segment (List ℕ))
 with_stacks positions segments = map (with_stack positions) segments
 
--- from where to where a stack stands, where there is one, lies in the list
+-- from where to where a stack stands, if there is one, lies in the list
 abbrev pub LiesIn : List ℕ → Option (ℕ × ℕ) → Type 0
 LiesIn positions None = ⊤
 LiesIn positions (Some bounds) = (bounds.0 ≤ bounds.1) × (bounds.1 ≤ length positions)
 
--- a stack, empty where there is none
+-- a stack, empty if there is none
 abbrev pub or_empty : Option (List ℕ) → List ℕ
 or_empty None = []
 or_empty (Some stack) = stack

@@ -24,7 +24,7 @@ module_file_name_of version d =
     then (member_of (codes "file") text_of d >>= λ name. Ok (Some name))
     else Ok None
 
--- a name, where there is one, before others
+-- a name, if there is one, before others
 abbrev pub with_name : Option (List ℕ) → List (List ℕ) → List (List ℕ)
 with_name None names = names
 with_name (Some name) names = name ∷ names

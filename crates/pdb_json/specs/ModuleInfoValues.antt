@@ -11,7 +11,7 @@ use Rattle.pdb_json_records.specs.Modules.{info_of}
 use Rattle.pdb_json.specs.Json.{json_of}
 use Rattle.pdb_json.specs.ModuleFiles.{stands_for_file}
 
--- what is known of a module: a stream, which may hold nothing
+-- the records of a module: a stream, which may hold nothing
 abbrev pub Known : Type 0
 Known = Result (Option ModuleInfo) StreamError
 
@@ -20,7 +20,7 @@ abbrev pub holding : Result ModuleInfo StreamError → Known
 holding (Ok info) = Ok (Some info)
 holding (Err fault) = Err fault
 
--- an element that stands for itself: a stream of info, or null where nothing is known
+-- an element that stands for itself: a stream of info, or null if nothing is known
 unfoldable pub own_info_of : ℕ → Data → Result Known Fault
 own_info_of version d = stream_of (optional_of (info_of version)) d
 
@@ -30,7 +30,7 @@ module_stream_of version d = do
   stream ← stream_of (info_of version) d
   Ok (holding stream)
 
--- what is in the value of a module file, where there is one
+-- what is in the value of a module file, if there is one
 abbrev pub module_in : ℕ → Option Data → Result Known Fault
 module_in version None = Err (module_not_json [])
 module_in version (Some d) = module_stream_of version d
@@ -58,7 +58,7 @@ infos_from version files number done (item d ds) = do
   infos ← infos_from version files (number + 1) (read_after version done d) ds
   Ok (info ∷ infos)
 
--- what is known of each module, by an array and the module files that its elements stand for, in order
+-- the records of each module, by an array and the module files that its elements stand for, in order
 unfoldable pub infos_of : ℕ → List (List ℕ) → Data → Result (List Known) Fault
 infos_of version files d = do
   ds ← array_of d

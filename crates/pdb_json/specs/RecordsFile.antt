@@ -31,7 +31,7 @@ records_of files d = do
   names ← module_file_names_in_version version file
   counted (length names) (length files) (records_in_version version files file)
 
--- what is in a value, where there is one
+-- what is in a value, if there is one
 abbrev pub in_json : {X : Type 0} → (Data → Result X Fault) → Option Data → Result X Fault
 in_json read None = Err not_json
 in_json read (Some d) = read d

@@ -1,4 +1,4 @@
-//! Reads the names of the module files that a records file wants.
+//! Reads the names of the module files in a records file.
 
 ghost use Rattle.std.specs.Prelude.{◌≡◌};
 ghost use Rattle.serde_json.specs.View.{view};

@@ -107,8 +107,7 @@ fn read_after(reader: Reader, done: usize, value: &Value) -> usize
     }
 }
 
-// Reads what is known of each module from elements and from the module files. Each element is given back before
-// the next is read.
+// Reads the records of each module from elements and module files. Each element is freed before the next one is read.
 fn all_known(reader: Reader, files: &[Vec<u8>], values: Vec<Value>) -> Result<AllKnown, RecordFault>
     ensures { Agrees result (infos_from reader.version (contents files.now) 0 0 (items_view values.items)) }
 {

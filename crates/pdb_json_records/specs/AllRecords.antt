@@ -14,7 +14,7 @@ use Rattle.pdb_json_records.specs.Types.{type_of}
 use Rattle.pdb_json_records.specs.Ids.{id_of}
 use Rattle.pdb_json_records.specs.Strings.{string_of}
 
--- the headers of the sections: null where there are none, but the member must be there
+-- the headers of the sections: null if there are none, but the member must be there
 unfoldable pub sections_of : Data → Result (Result (Option (List ImageSectionHeader)) StreamError) Fault
 sections_of d =
     if has (codes "sections") d

@@ -34,7 +34,7 @@ export_of d = do
   global ← member_of (codes "global") u32_of exported
   Ok (own, global)
 
--- what is known of a module
+-- the records of a module
 unfoldable pub info_of : ℕ → Data → Result ModuleInfo Fault
 info_of version d = do
   info ← object_of d

@@ -125,7 +125,7 @@ symbol_of version d = do
   content ← member_of (codes "data") (optional_of (data_of version)) symbol
   Ok (record { raw_kind = raw_kind; content = content })
 
--- the symbols of the whole program
+-- the global symbols
 unfoldable pub symbol_table_of : ℕ → Data → Result SymbolTable Fault
 symbol_table_of version d = do
   symbols ← reading_of (symbol_of version) d

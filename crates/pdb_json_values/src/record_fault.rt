@@ -16,7 +16,7 @@ pub enum RecordFault {
     /// The bytes aren't a JSON text or aren't UTF-8, or values are nested deeper than 127.
     #[error("not a JSON text")]
     NotJson,
-    /// The records file names another number of module files than was given.
+    /// The records file names more or fewer module files than were given.
     #[error("{wanted} module files wanted, {given} given")]
     ModuleFiles { wanted: usize, given: usize },
     /// A value is missing, or of the wrong kind.
@@ -75,7 +75,7 @@ fn through(alloc: Global, name: &str, path: &str) -> Result<String, AllocError>
     format!(in alloc; "/{name}{path}")
 }
 
-/// The answer of a reader, seen from around the member or element that it reads.
+/// The result of reading a member or element. The path of a fault gets its name in front.
 pub fn inside<T>(
     alloc: Global,
     name: &str,
@@ -98,7 +98,7 @@ pub fn inside<T>(
     }
 }
 
-/// The result of reading an element. The path of a fault gets its number.
+/// The result of reading an element. The path of a fault gets its number in front.
 pub fn inside_element<T: Drop>(
     alloc: Global,
     number: usize,

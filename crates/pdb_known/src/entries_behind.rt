@@ -11,8 +11,8 @@ use pdb_records::{
     IdData, IdIndex, Symbol, SymbolData, TypeData, TypeIndex, is_code_kind, is_site_kind,
 };
 
-// Whether the types that a type is printed with were read, and the sizes that it is printed with and gets its own
-// from.
+// Whether everything was read that is needed to print a type and to know its size. That is the types in it, and the
+// sizes of its element or of the type underneath.
 pub(crate) fn is_type_closed(known: &KnownRecords, index: TypeIndex, content: &TypeData) -> bool
     ensures { result ≡ is_type_closed known.now index.0 content.now }
 {
@@ -57,7 +57,7 @@ pub(crate) fn is_inlinee_read(known: &KnownRecords, symbol: &Symbol) -> bool
     }
 }
 
-// Whether the types that a type is printed with were read.
+// Whether the types that are printed as parts of a type were read.
 fn are_types_behind_read(types: &EntriesRead, content: &TypeData) -> bool
     ensures { result ≡ all_types (is_covered types.now) (types_behind content.now) }
 {
@@ -80,7 +80,7 @@ fn are_types_behind_read(types: &EntriesRead, content: &TypeData) -> bool
     }
 }
 
-// Whether the size that is needed to print a type is known: that of an array's element.
+// Whether the size that is needed to print a type is known. Only an array needs one: the size of its element.
 fn are_sizes_behind_known(known: &KnownRecords, content: &TypeData) -> bool
     ensures { result ≡ all_types (is_sized known.now) (sizes_behind content.now) }
 {

@@ -15,8 +15,8 @@ abbrev pub error_of : {A : Type 0} → Result A Error → Option Error
 error_of (Ok answer) = None
 error_of (Err e) = Some e
 
--- the error of a part by itself: of what is known of the module's code; and after that, of the function's line rows
--- and of its inline ranges
+-- the error of a part by itself: of the records of the module's code; and after that, of the function's line rows and
+-- of its inline ranges
 abbrev pub own_error : ModuleInfo → FunctionMatch → CodePart → Option Error
 own_error info found (part.ExtendedInfo m) = error_of (extended_info info)
 own_error info found (part.Lines m start) =

@@ -11,6 +11,6 @@ abbrev pub provided : Result (Option (Bor ModuleInfo)) StreamError → Result (O
 provided (Ok info) = Ok (option_copied info)
 provided (Err fault) = Err fault
 
--- what is known of each module: what a provider answers for a module index and a module there
+-- the records of each module: what a provider answers for a module index and a module there
 abbrev pub ProviderInfos : Type 0
 ProviderInfos = ℕ → Module → Result (Option ModuleInfo) StreamError

@@ -5,12 +5,12 @@ use Rattle.pdb_frames.specs.Frame.{FrameInfo, FramesInfo}
 use Rattle.pdb_frames.specs.SourceFiles.{FileName}
 use Rattle.pdb_report_lib.specs.PrintedLines.{hex, name_text, unknown}
 
--- the name of a file, where it is known
+-- the name of a file, if it is known
 abbrev pub file_text : Option FileName → List ℕ
 file_text None = unknown
 file_text (Some name) = name.text
 
--- the number of a line in a file, where it is known
+-- the number of a line in a file, if it is known
 abbrev pub line_number_text : Option ℕ → List ℕ
 line_number_text None = unknown
 line_number_text (Some line) = decimal line

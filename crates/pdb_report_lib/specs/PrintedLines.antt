@@ -7,7 +7,7 @@ use Rattle.pdb_function_info.specs.Function.{FunctionInfo}
 abbrev pub hex : ℕ → List ℕ
 hex n = digits 16 false n
 
--- a name, where it is known
+-- a name, if it is known
 abbrev pub name_text : Option (List ℕ) → List ℕ
 name_text None = codes "<unknown>"
 name_text (Some name) = name
@@ -16,7 +16,7 @@ name_text (Some name) = name
 abbrev pub unknown : List ℕ
 unknown = 63 ∷ 63 ∷ []
 
--- an end, where it is known
+-- an end, if it is known
 abbrev pub end_text : Option ℕ → List ℕ
 end_text None = unknown
 end_text (Some address) = codes "0x" ++ hex address

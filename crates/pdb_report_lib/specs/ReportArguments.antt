@@ -8,7 +8,7 @@ use Rattle.pdb_report_lib.specs.declared.reports.Command.{Command}
 use Rattle.pdb_report_lib.specs.declared.reports.Command.TheVariants.{Names, Frames}
 use Rattle.pdb_report_lib.specs.declared.reports.Command.TheVariants as wanted
 
--- what follows from a value, where there is one
+-- what follows from a value, if there is one
 infixl 10 ◌>>=◌
 abbrev pub ◌>>=◌ : {A B : Type 0} → Option A → (A → Option B) → Option B
 None >>= next = None

@@ -27,7 +27,7 @@ abbrev pub function_text : {P : Type 0} → (P → ProviderInfos) → ContextInp
 function_text info inputs address = Ok (names_line address (function_at info inputs address))
 
 -- the text of an address, where these parts of the records of code failed before: the lines of the frames there, or the
--- error of the look-up
+-- error of the lookup
 abbrev pub stack_text : {P : Type 0} → (P → ProviderInfos) → ContextInputs P → CodeParts → ℕ
     → Result (List ℕ) Error
 stack_text info inputs failed address =
@@ -57,7 +57,7 @@ report_calls Frames addresses = map FindFrames addresses
 report_calls wanted.List addresses = Functions ∷ []
 
 -- a context once the frames over an address are asked for: where memory ran out it remembers no more than broken parts
--- of the records besides, and else it is as the look-up leaves it
+-- of the records besides, and else it is as the lookup leaves it
 abbrev pub IsLeftByFrames : {P : Type 0} → (P → ProviderInfos) → ContextState P → ℕ → ReportFault → ContextState P
     → Type 0
 IsLeftByFrames info before address (Lookup error) after =
@@ -73,7 +73,7 @@ pub record IsLeftAmid {P : Type 0} (info : P → ProviderInfos) (before after : 
   pub next : slice_get addresses done ≡ Some address
   pub left : IsLeftByFrames info (after_calls info before (map FindFrames (take done addresses))) address fault after
 
--- a context where a report ended early: the look-ups before are made, and of the one that was under way only broken
+-- a context where a report ended early: the lookups before are made, and of the one that was under way only broken
 -- parts of the records are remembered
 abbrev pub IsLeft : {P : Type 0} → (P → ProviderInfos) → ContextState P → ContextState P → Command → List ℕ
     → ReportFault
@@ -83,17 +83,17 @@ IsLeft info before after Frames addresses fault = IsLeftAmid info before after a
 IsLeft info before after wanted.List addresses fault =
     IsCutShort info before after (start_addresses info before.inputs)
 
--- a sink takes the text, where there is one
+-- a sink takes the text, if there is one
 abbrev pub TakesText : Result (List ℕ) Error → SinkState → SinkState → Type 0
 TakesText (Ok text) before after = Takes before after text
 TakesText (Err error) before after = ⊥
 
--- the look-up of an address has this error or found no memory, and the sink is as it was; or the sink refused the text
+-- the lookup of an address has this error or found no memory, and the sink is as it was; or the sink refused the text
 abbrev pub EndsAtOnce : Result (List ℕ) Error → SinkState → SinkState → ReportFault → Type 0
 EndsAtOnce text before after (Lookup error) = (error ≢ OutOfMemory → text ≡ Err error) × (after ≡ before)
 EndsAtOnce text before after Write = after.failed ≡ true
 
--- a look-up has this error or found no memory, and the sink took the texts of the addresses before that one
+-- a lookup has this error or found no memory, and the sink took the texts of the addresses before that one
 pub record EndsAt (text_of : ℕ → Result (List ℕ) Error) (addresses : List ℕ) (before after : SinkState) (error : Error)
     : Type 0 where
   pub done : ℕ
@@ -102,7 +102,7 @@ pub record EndsAt (text_of : ℕ → Result (List ℕ) Error) (addresses : List 
   pub refused : error ≢ OutOfMemory → text_of address ≡ Err error
   pub taken : TakesText (addresses_text text_of (take done addresses)) before after
 
--- why a report of addresses ends early: at a look-up, or where the sink refused a text
+-- why a report of addresses ends early: at a lookup, or where the sink refused a text
 abbrev pub EndsAmidTexts : (ℕ → Result (List ℕ) Error) → List ℕ → SinkState → SinkState → ReportFault → Type 0
 EndsAmidTexts text_of addresses before after (Lookup error) = EndsAt text_of addresses before after error
 EndsAmidTexts text_of addresses before after Write = after.failed ≡ true

@@ -123,7 +123,7 @@ fn put_frames<P: ModuleProvider, W: Sink>(
     Ok(())
 }
 
-// Looks up the function at a start address, and writes its line; nothing if there is none.
+// Looks up the function at a start address, and writes its line. Writes nothing if there is no function.
 fn put_listed<P: ModuleProvider, W: Sink>(
     alloc: Global,
     context: &mut Context<'_, P>,
@@ -145,8 +145,7 @@ fn put_listed<P: ModuleProvider, W: Sink>(
     Ok(())
 }
 
-// Writes the lines of the functions over addresses, in order. The line of an address is written whole after
-// its look-up.
+// Writes the line of the function at each address, in order. Each line is written before the next lookup.
 fn report_names<P: ModuleProvider, W: Sink>(
     alloc: Global,
     context: &mut Context<'_, P>,
@@ -167,8 +166,7 @@ fn report_names<P: ModuleProvider, W: Sink>(
     Ok(())
 }
 
-// Writes the lines of the frames over addresses, in order. The lines of an address are written whole after
-// its look-up.
+// Writes the lines of the frames at each address, in order. They are written before the next lookup.
 fn report_frames<P: ModuleProvider, W: Sink>(
     alloc: Global,
     context: &mut Context<'_, P>,
@@ -192,8 +190,7 @@ fn report_frames<P: ModuleProvider, W: Sink>(
     Ok(())
 }
 
-// Writes the lines of all functions, by where they start. The line of a function is written whole after its
-// look-up.
+// Writes the lines of all functions, sorted by start address. Each line is written before the next lookup.
 fn report_list<P: ModuleProvider, W: Sink>(
     alloc: Global,
     context: &mut Context<'_, P>,
@@ -216,13 +213,13 @@ fn report_list<P: ModuleProvider, W: Sink>(
     Ok(())
 }
 
-/// Writes what is asked of the program: of each address, in order, or of each function. Each text is written
-/// whole after its look-up. A list doesn't look at the addresses.
+/// Writes the report of a command: about each address in order, or about each function. Each text is written completely
+/// before the next lookup. [`Command::List`] ignores the addresses.
 ///
 /// # Errors
 ///
-/// [`ReportFault::Lookup`] at the first address whose look-up has an error, or where memory runs out, and
-/// [`ReportFault::Write`] where the sink refused a text.
+/// [`ReportFault::Lookup`] at the first address whose lookup fails, or on allocation failure. [`ReportFault::Write`] if
+/// the sink refuses a text.
 pub fn report<P: ModuleProvider, W: Sink>(
     alloc: Global,
     context: &mut Context<'_, P>,
@@ -231,7 +228,6 @@ pub fn report<P: ModuleProvider, W: Sink>(
     sink: &mut W,
 ) -> Result<(), ReportFault>
     ensures inputs { context.new.inputs ≡ context.old.inputs }
-    // What failed afterwards is what fails by the calls that the report stands for.
     ensures state { OnOk result
         (context.new ≡ after_calls P.info context.old (report_calls command addresses.now)) }
     ensures early { IfErr result (IsLeft P.info context.old context.new command addresses.now) }

@@ -64,7 +64,7 @@ call_read all address level (Inline l line file origin start size ∷ lines) =
     else call_read all address level lines
 call_read all address level (line ∷ lines) = call_read all address level lines
 
--- a call and those inside of it, or none where there is no such call
+-- a call and those inside of it, or none if there is no such call
 abbrev pub and_inner : Option ShownCall → List ShownCall → List ShownCall
 and_inner None inner = []
 and_inner (Some call) inner = call ∷ inner
@@ -90,7 +90,7 @@ frames_read all address found =
     stack_read found.name (calls_read all address found.records (length found.records) 0)
     (place_read all address found.records)
 
--- the frames that records show at an address; none where no function is over it
+-- the frames that records show at an address; none if no function is over it
 unfoldable pub shown_by_records : List SymbolLine → ℕ → Option (List ShownFrame)
 shown_by_records lines address = option_map (frames_read lines address) (function_at address lines)
 

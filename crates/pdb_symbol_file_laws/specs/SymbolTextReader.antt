@@ -22,7 +22,7 @@ pub data SymbolLine : Type 0 where
   -- none of all this
   OtherLine : SymbolLine
 
--- a byte in front of the first of some lines, or in a line of its own where there is none
+-- a byte in front of the first of some lines, or in a line of its own if there is none
 abbrev pub in_front_of : ℕ → List (List ℕ) → List (List ℕ)
 in_front_of byte [] = (byte ∷ []) ∷ []
 in_front_of byte (line ∷ lines) = (byte ∷ line) ∷ lines
@@ -58,7 +58,7 @@ unfoldable pub number_and_more : ℕ → List ℕ → (ℕ → List ℕ → Symb
 number_and_more base text says =
     if is_number base (first_word text) then says (digits_value base (first_word text)) (rest_of text) else OtherLine
 
--- a line that ends with a number: what it says by that number. It is none of the records where there is no number
+-- a line that ends with a number: what it says by that number. It is none of the records if there is no number
 unfoldable pub number_at_end : ℕ → List ℕ → (ℕ → SymbolLine) → SymbolLine
 number_at_end base text says = if is_number base text then says (digits_value base text) else OtherLine
 

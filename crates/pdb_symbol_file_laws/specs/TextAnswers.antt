@@ -30,8 +30,8 @@ NoneOpen address (records ∷ functions) =
     (records.found.end_rva ≡ None → records.start ≤ address → begins_by address functions ≡ true)
     × NoneOpen address functions
 
--- a reader of a text is shown at an address what is answered there, with names on one line; and nothing where nothing
--- is answered, unless the last function before the address is one whose end isn't known
+-- a reader of a text is shown at an address what is answered there, with names on one line; and nothing if nothing is
+-- answered, unless the last function before the address is one whose end isn't known
 abbrev pub TextShows : {S : Type 0} → (S → ℕ → Option FramesInfo → Type 0) → S → List FunctionRecords → List ℕ
     → ℕ → Type 0
 TextShows answers source functions text address =

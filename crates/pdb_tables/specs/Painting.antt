@@ -2,7 +2,7 @@
 use Rattle.std.specs.Prelude.{◌≡◌, ℕ, Bool, true, List, [], ◌∷◌, ◌++◌, nat_lt, nat_le, min, max, if◌then◌else◌}
 use Rattle.pdb_tables.specs.declared.segment.Segment.{Segment}
 
--- a segment cut to the numbers from lo up to hi, as a list of one, or of none where nothing is left of it
+-- a segment cut to the numbers from lo up to hi, as a list of one, or of none if nothing is left of it
 abbrev pub clipped : {T : Type 0} → ℕ → ℕ → Segment T → List (Segment T)
 clipped lo hi segment =
     if nat_lt (max lo segment.start) (min hi segment.end)
@@ -29,7 +29,7 @@ abbrev pub overlaid : {T : Type 0} → ℕ → List (Segment T) → List (Segmen
 overlaid lo [] under = segments_from lo under
 overlaid lo (top ∷ tops) under = segments_within lo top.start under ++ top ∷ overlaid top.end tops under
 
--- where the last segment ends: n where there is none
+-- where the last segment ends: n if there is none
 abbrev pub end_from : {T : Type 0} → ℕ → List (Segment T) → ℕ
 end_from n [] = n
 end_from n (segment ∷ segments) = end_from segment.end segments

@@ -1,4 +1,4 @@
--- Records of types and ids: how the bytes of a list are cut into them.
+-- Records of types and ids: how the bytes of a list are split into records.
 use Rattle.std.specs.Prelude.{◌≡◌, ℕ, ◌+◌, ◌-◌, ◌^◌, min, nat_lt, List, take, drop, length, map, slice_get}
 use Rattle.std.specs.Prelude.{Option, Some, None, Result, Ok, Err, if◌then◌else◌}
 use Rattle.pdb_records.specs.Readings.{Read}
@@ -8,20 +8,20 @@ use Rattle.pdb_msf.specs.Faults.{◌>>=◌}
 use Rattle.pdb_msf.specs.ItemLists.{all_items}
 use Rattle.pdb_msf.specs.NumberLists.{two_byte_number}
 
--- a record: its kind, which is the number of a leaf (LF_..), and what stands after the kind
+-- a record: its kind, which is the number of a leaf (LF_..), and the bytes after the kind
 pub record TypeBytes : Type 0 where
   pub kind : ℕ
   pub content : List ℕ
 
--- RecordLen, the number of two bytes that a record begins with: how many bytes of the record stand after it
+-- RecordLen, the two-byte number at the start of a record: the size of the rest of the record
 abbrev pub record_len : List ℕ → ℕ
 record_len bytes = two_byte_number bytes
 
--- what stands after RecordLen in the record that these bytes begin with
+-- the bytes after RecordLen in the first record
 abbrev pub behind_len : List ℕ → List ℕ
 behind_len bytes = take (record_len bytes) (drop 2 bytes)
 
--- the record that these bytes begin with: after RecordLen stand RecordKind, in two bytes, and its content
+-- the first record: after RecordLen come RecordKind, in two bytes, and its content
 abbrev pub first_record : List ℕ → TypeBytes
 first_record bytes = record { kind = two_byte_number (behind_len bytes); content = drop 2 (behind_len bytes) }
 
@@ -34,12 +34,12 @@ record_fault bytes =
     if nat_lt (record_len bytes) 2 then Some BAD_LENGTH else
     None
 
--- the record that stands first, unless it has this fault, and what stands after it
+-- the first record, unless it has this fault, and what stands after it
 abbrev pub unless_faulty : Option StreamError → List ℕ → Result (TypeBytes × List ℕ) StreamError
 unless_faulty (Some fault) bytes = Err fault
 unless_faulty None bytes = Ok (first_record bytes, drop (2 + record_len bytes) bytes)
 
--- the record that stands first, and what stands after it
+-- the first record, and the bytes after it
 abbrev pub next_record : List ℕ → Result (TypeBytes × List ℕ) StreamError
 next_record bytes = unless_faulty (record_fault bytes) bytes
 

@@ -10,7 +10,7 @@ use Rattle.pdb_type_texts.specs.Plans.{Index, Plan, Later, ◌▸◌, written}
 abbrev pub unless_left_out : Bool → Option TypeIndex → Option TypeIndex
 unless_left_out left_out index = if left_out then None else index
 
--- the type that a function returns, with a space after it: nothing where there is none to print
+-- the type that a function returns, with a space after it: nothing if there is none to print
 abbrev pub returned : List ℕ → Option TypeIndex → Plan
 returned inside None = written []
 returned inside (Some index) = Later inside (Index index.0) ▸ written (codes " ")

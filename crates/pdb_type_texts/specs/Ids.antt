@@ -30,8 +30,8 @@ method_id w method inside (MemberFunction m) =
     ▸ Later inside (MethodArguments m Signature)
 method_id w method inside other = failing (Plain MemberFunctionIdIsNotMemberFunctionType)
 
--- the scope of a function, and `::` after it: nothing where it has none. Each id that this one is a scope of, or a
--- scope's scope, and so on, was met
+-- the scope of a function, and `::` after it: nothing if it has none. Each id that this one is a scope of, or a scope's
+-- scope, and so on, was met
 abbrev pub scope : List ℕ → List ℕ → Option IdIndex → Plan
 scope met inside None = written []
 scope met inside (Some index) = Later inside (Id met index.0) ▸ written (codes "::")
@@ -56,6 +56,6 @@ id_by_kind w met (id.StringList substrings) =
     written (codes "\"") ▸ types_between (codes "\" \"") [] substrings ▸ written (codes "\"")
 id_by_kind w met (id.Other kind) = written (unhandled_scope_text kind)
 
--- the id of this index, where no id was met before
+-- the id of this index, if no id was met before
 abbrev pub id_of_index : ℕ → Plan
 id_of_index index = Later [] (Id [] index)

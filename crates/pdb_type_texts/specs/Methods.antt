@@ -40,7 +40,7 @@ this_by_type w class this (Pointer p) =
     else and_then (w.read p.underlying_type.0) (λ target. Ok (this_by_target class this target))
 this_by_type w class this other = Ok (printed_this this)
 
--- what a method's `this` shows, where there is one
+-- what a method's `this` shows, if there is one
 abbrev pub this_of : PrintInputs → TypeIndex → Option TypeIndex → Result ThisParameter ReadErrorView
 this_of w class None = Ok (plain_this false)
 this_of w class (Some this) = and_then (w.read this.0) (this_by_type w class this)

@@ -25,7 +25,7 @@ pub record Aggregate : Type 0 where
 abbrev pub aggregate_view : code.Aggregate → Aggregate
 aggregate_view a = record { name = a.name.now; size = a.size; forward_reference = a.forward_reference }
 
--- a class or a union goes by its unique name where it has one, else by its name
+-- a class or a union goes by its unique name if it has one, else by its name
 abbrev pub aggregate : TypeData → Option Aggregate
 aggregate (Class c) =
     Some (record { name = unwrap_or c.unique_name c.name; size = c.size; forward_reference = c.forward_reference })

@@ -28,7 +28,7 @@ pub record TypeInputs (P : Type 0) : Type 0 where
   pub ids : Read (Item IdIndex IdData)
   pub flags : TypeFormatterFlags
 
--- the link inputs: what is known of each module, the list of modules, and the texts
+-- the link inputs: the records of each module, the list of modules, and the texts
 pub record LinkInputs : Type 0 where
   pub info : ProviderInfos
   pub modules : List Module

@@ -71,7 +71,7 @@ holds rva section = nat_le section.rva rva && nat_lt rva (section.rva + section.
 abbrev pub section_bytes : List ℕ → ℕ → Section → List ℕ
 section_bytes file rva section = drop (rva - section.rva) (take section.file_size (drop section.file_offset file))
 
--- the bytes from an address on up to the end of its section; none where no section holds the address
+-- the bytes from an address on up to the end of its section; none if no section holds the address
 abbrev pub bytes_in : List ℕ → ℕ → Option Section → List ℕ
 bytes_in file rva None = []
 bytes_in file rva (Some section) = section_bytes file rva section

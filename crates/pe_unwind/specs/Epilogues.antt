@@ -84,7 +84,7 @@ first_pop code =
 abbrev pub pop_undone : Pop → Unwound → Unwound
 pop_undone pop u = popped 8 (with_saved pop.register u.stack u)
 
--- behind the pop that code begins with, what follows it does; where there is none, nothing is done
+-- behind the pop that code begins with, what follows it does; if there is none, nothing is done
 abbrev pub pops_by : (List ℕ → Unwound → Unwound × List ℕ)
     → List ℕ → Unwound → Option Pop → Unwound × List ℕ
 pops_by others code u None = (u, code)
@@ -144,7 +144,7 @@ jumps_prefixed code =
 abbrev pub leaves : Function → List ℕ → Bool
 leaves function code = returns code || jumps_out function code || jumps_through code || jumps_prefixed code
 
--- the rules where pops stand in front of the instruction that leaves the function; none where no such one follows
+-- the rules where pops stand in front of the instruction that leaves the function; none if no such one follows
 abbrev pub rules_before : Function → Unwound × List ℕ → Option Rules
 rules_before function undone = if leaves function undone.1 then Some (rules_of undone.0) else None
 
