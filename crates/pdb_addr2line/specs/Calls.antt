@@ -85,7 +85,7 @@ after_call info c (FormatFunction name m index) =
 after_call info c (FormatId m index) =
     with_failed c (id_run info c.inputs.type_inputs m index.0 c.failed).failed
 
--- a context once calls are answered, one after the other
+-- a context once calls are answered, in order
 abbrev pub after_calls : {P : Type 0} → (P → ProviderInfos) → ContextState P → List Call → ContextState P
 after_calls info c [] = c
 after_calls info c (call ∷ calls) = after_calls info (after_call info c call) calls
@@ -101,8 +101,8 @@ pub record Appends (before after : List Answer) (wanted : List AnswerView) : Typ
   pub is : after ≡ before ++ appended
   pub shown : map answer_view appended ≡ wanted
 
--- a context and a list of answers where memory ran out: some first calls are answered, and the one after them counts
--- as not made
+-- a context and a list of answers if memory ran out: some first calls are answered, and the one after them counts as
+-- not made
 pub record StopsEarly {P : Type 0} (info : P → ProviderInfos) (before : ContextState P) (calls : List Call)
     (answers answers' : List Answer) (after : ContextState P) : Type 0 where
   pub made : List Call

@@ -52,7 +52,7 @@ functions_of info s = functions_at info s (start_addresses info s)
 abbrev pub after_function : {P : Type 0} → (P → ProviderInfos) → ContextState P → ℕ → ContextState P
 after_function info c address = record c { failed = failed_after info c.inputs address c.failed }
 
--- a context once it answered the functions over these addresses, one after the other
+-- a context once it answered the functions over these addresses, in order
 abbrev pub after_functions : {P : Type 0} → (P → ProviderInfos) → ContextState P → List ℕ → ContextState P
 after_functions info c addresses = fold (after_function info) c addresses
 

@@ -1,4 +1,4 @@
--- The names behind the numbers in the records of code.
+-- The names for the numbers in the records of code.
 use Rattle.std.specs.Prelude.{◌≡◌, List, Option, Some, None, slice_get}
 use Rattle.std.specs.List.{AllZip}
 use Rattle.pdb_breakpad.specs.declared.inline_records.InlinedCall.{InlinedCall}

@@ -6,8 +6,8 @@ use Rattle.pdb_container.specs.FunctionsByStart.{symbols_of}
 use Rattle.pdb_container.specs.ModulePlaces.{module_at}
 use Rattle.pdb_container.specs.UnnamedCode.{code_of_module}
 
--- all code of the module at a position has a name: its own stream lists no jump, and in front of each chunk code that
--- starts where the chunk's function does
+-- all code of the module at a position has a name: its own stream lists no jump, and before each chunk code that starts
+-- where the chunk's function does
 abbrev pub HasNamedCode : Msf → ℕ → Type 0
 HasNamedCode msf position =
     code_of_module position (symbols_of (module_at msf (streams_of_modules msf) position)) ≡ []

@@ -70,8 +70,8 @@ contribution_before a b = is_lt (contribution_cmp a b)
 abbrev pub ordered_claims : List ImageSectionHeader → List SectionContribution → List ModuleSectionContribution
 ordered_claims sections cs = in_order contribution_before (claims sections cs)
 
--- a claim in front of intervals: it joins the first one where that is of its module and section, gaps included, up to
--- the greater end, and else it is an interval of its own
+-- a claim before intervals: it joins the first one where that is of its module and section, gaps included, up to the
+-- greater end, and else it is an interval of its own
 abbrev pub intervals_with : ModuleSectionContribution → List ModuleSectionContribution
     → List ModuleSectionContribution
 intervals_with claim [] = claim ∷ []
@@ -85,7 +85,7 @@ abbrev pub intervals_of : List ModuleSectionContribution → List ModuleSectionC
 intervals_of [] = []
 intervals_of (claim ∷ claims) = intervals_with claim (intervals_of claims)
 
--- an interval that begins before the one in front of it ends, in one section
+-- an interval that begins before the one before it ends, in one section
 abbrev pub refused_overlap : Option ModuleSectionContribution → ModuleSectionContribution → Option Error
 refused_overlap None interval = None
 refused_overlap (Some before) interval =

@@ -44,7 +44,7 @@ IsFaultOf (code.NumberOutOfRange path) read = read ≡ Err (out_of_range (string
 IsFaultOf (code.ModuleNotJson path) read = read ≡ Err (module_not_json (string_bytes path))
 IsFaultOf code.OutOfMemory read = Unit {0}
 
--- a program's answer is what the definition reads, unless memory ran out
+-- a program's answer is what the definition reads, except after an allocation failure
 abbrev pub Agrees : {X : Type 0} → Result X RecordFault → Result X Fault → Type 0
 Agrees (Ok x) read = read ≡ Ok x
 Agrees (Err fault) read = IsFaultOf fault read

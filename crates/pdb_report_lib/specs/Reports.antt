@@ -56,8 +56,8 @@ report_calls Names addresses = map FindFunction addresses
 report_calls Frames addresses = map FindFrames addresses
 report_calls wanted.List addresses = Functions ∷ []
 
--- a context once the frames over an address are asked for: where memory ran out it remembers no more than broken parts
--- of the records besides, and else it is as the lookup leaves it
+-- a context once the frames over an address are asked for: if memory ran out it remembers no more than broken parts of
+-- the records besides, and else it is as the lookup leaves it
 abbrev pub IsLeftByFrames : {P : Type 0} → (P → ProviderInfos) → ContextState P → ℕ → ReportFault → ContextState P
     → Type 0
 IsLeftByFrames info before address (Lookup error) after =

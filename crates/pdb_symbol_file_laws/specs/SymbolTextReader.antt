@@ -22,7 +22,7 @@ pub data SymbolLine : Type 0 where
   -- none of all this
   OtherLine : SymbolLine
 
--- a byte in front of the first of some lines, or in a line of its own if there is none
+-- a byte before the first of some lines, or in a line of its own if there is none
 abbrev pub in_front_of : ℕ → List (List ℕ) → List (List ℕ)
 in_front_of byte [] = (byte ∷ []) ∷ []
 in_front_of byte (line ∷ lines) = (byte ∷ line) ∷ lines

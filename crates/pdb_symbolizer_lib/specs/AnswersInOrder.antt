@@ -42,7 +42,7 @@ list_end style = []
 abbrev pub words_after : Style → List (List ℕ) → List ℕ
 words_after style texts = flat_map (λ text. separator style false ++ text) texts
 
--- the answers to all words, one after the other
+-- the answers to all words, in order
 abbrev pub words_listed : Style → List (List ℕ) → List ℕ
 words_listed style [] = []
 words_listed style (text ∷ texts) = text ++ words_after style texts

@@ -1,7 +1,7 @@
 -- Lists in order.
 use Rattle.std.specs.Prelude.{Bool, List, [], ◌∷◌, if◌then◌else◌}
 
--- puts an element in front of the first one that isn't before it
+-- puts an element before the first one that isn't before it
 abbrev pub put : {T : Type 0} → (T → T → Bool) → T → List T → List T
 put before x [] = x ∷ []
 put before x (y ∷ ys) = if before y x then y ∷ put before x ys else x ∷ y ∷ ys

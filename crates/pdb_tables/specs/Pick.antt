@@ -14,7 +14,7 @@ abbrev pub pick : {T : Type 0} → (T → Bool) → (T → ℕ) → List T → O
 pick over start [] = None
 pick over start (x ∷ xs) = later_start start (if over x then Some x else None) (pick over start xs)
 
--- an element of a list passes the test; of those that pass, all ahead of it start earlier, and all behind it no later
+-- an element of a list passes the test; of those that pass, all ahead of it start earlier, and all after it no later
 pub record IsPick {T : Type 0} (over : T → Bool) (start : T → ℕ) (xs : List T) (x : T) : Type 0 where
   pub ahead : List T
   pub behind : List T

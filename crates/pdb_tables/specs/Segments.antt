@@ -12,7 +12,7 @@ abbrev pub value_at : {T : Type 0} → List (Segment T) → ℕ → Option T
 value_at [] x = None
 value_at (segment ∷ segments) x = painted segment.start segment.end segment.value (value_at segments x) x
 
--- what x has after the segments were painted one after the other, where it had `before`
+-- what x has after the segments were painted in order, where it had `before`
 abbrev pub painted_in_turn : {T : Type 0} → List (Segment T) → Option T → ℕ → Option T
 painted_in_turn [] before x = before
 painted_in_turn (segment ∷ segments) before x =

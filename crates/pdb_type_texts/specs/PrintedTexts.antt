@@ -28,7 +28,7 @@ abbrev pub ran_out_of_memory : Error → Bool
 ran_out_of_memory OutOfMemory = true
 ran_out_of_memory other = false
 
--- what was written before an error: all that the run printed, or nothing where memory ran out; of what a writer that
+-- what was written before an error: all that the run printed, or nothing if memory ran out; of what a writer that
 -- refuses had taken nothing is said
 pub record Fails {W : Type 0} (gives : W → List ℕ → W → Type 0) (r : Run) (before after : W) (e : Error)
     (failed : Parts) : Type 0 where

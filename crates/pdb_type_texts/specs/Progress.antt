@@ -44,12 +44,12 @@ beginning = record { steps = []; text = []; failure = None }
 abbrev pub with_step : Pending → Stage → Stage
 with_step step s = record { steps = step ∷ s.steps; text = s.text; failure = s.failure }
 
--- these are to be printed next, one after the other
+-- these are to be printed next, in order
 abbrev pub with_tasks : List tasks.Task → Stage → Stage
 with_tasks [] s = s
 with_tasks (task ∷ further) s = with_step (Print task) (with_tasks further s)
 
--- these were put before what was to be done, to be printed one after the other
+-- these were put before what was to be done, to be printed in order
 pub record Puts (put : List tasks.Task) (old new : Stage) : Type 0 where
   pub is : new ≡ with_tasks put old
 

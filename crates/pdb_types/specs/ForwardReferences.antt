@@ -50,12 +50,12 @@ abbrev pub first_definition : List ℕ → List (Item TypeIndex TypeData) → Op
 first_definition name [] = None
 first_definition name (item ∷ items) = option_or (definition_size name item) (first_definition name items)
 
--- the entries behind the first that has this index
+-- the entries after the first that has this index
 abbrev pub entries_behind : ℕ → List (Item TypeIndex TypeData) → List (Item TypeIndex TypeData)
 entries_behind number [] = []
 entries_behind number (item ∷ items) = if item.index.0 == number then items else entries_behind number items
 
--- the size of a class or a union that is a forward reference at this index: its first definition behind that entry has
+-- the size of a class or a union that is a forward reference at this index: its first definition after that entry has
 -- it
 abbrev pub size_behind : ℕ → List ℕ → List (Item TypeIndex TypeData) → Option ℕ
 size_behind number name items = first_definition name (entries_behind number items)
@@ -68,7 +68,7 @@ referred_name a = if a.forward_reference then Some a.name else None
 abbrev pub entry_name : Item TypeIndex TypeData → Option (List ℕ)
 entry_name item = option_and_then referred_name (item_aggregate item)
 
--- the size behind the first entry with this index of the name that it goes by, where it is a forward reference
+-- the size after the first entry with this index of the name that it goes by, where it is a forward reference
 abbrev pub forward_size : ℕ → List (Item TypeIndex TypeData) → Option ℕ
 forward_size number items =
     option_and_then (λ name. size_behind number name items)
@@ -82,6 +82,6 @@ size_under sizes name = get_by (λ key. slice_cmp nat_cmp name key.now) sizes
 unfoldable pub Defines : List (Item TypeIndex TypeData) → BTreeMap (Bor (List ℕ)) ℕ → Type 0
 Defines items sizes = (name : List ℕ) → size_under sizes name ≡ first_definition name items
 
--- a table has for each number the size that the own name of its forward reference is given behind it
+-- a table has for each number the size that the own name of its forward reference is given after it
 unfoldable pub Tabulates : List (Item TypeIndex TypeData) → BTreeMap ℕ ℕ → Type 0
 Tabulates items sizes = (number : ℕ) → get nat_cmp sizes number ≡ forward_size number items

@@ -92,7 +92,7 @@ export_of link local module_index =
     and_then (unbroken (Exports module_index) (exports link module_index)) (λ list.
     found_export local (exported local list))
 
--- the index behind an import: the name of the other module, and the number there
+-- the index after an import: the name of the other module, and the number there
 abbrev pub import_target : LinkInputs → List (StringRef × List ℕ) → StringRef × ℕ → Result ℕ ReadErrorView
 import_target link strings (reference, local) =
     and_then (module_under link.modules strings reference) (λ module_index.

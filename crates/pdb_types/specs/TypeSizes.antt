@@ -21,7 +21,7 @@ use Rattle.pdb_types.specs.ReadError.{ReadErrorView, Broken}
 abbrev pub read_type : LinkInputs → Read (Item TypeIndex TypeData) → ℕ → ℕ → Result (ℕ × TypeData) ReadErrorView
 read_type link types module_index index = reading (λ i. i.0) link types module_index index
 
--- the size of a forward reference's definition behind it; other types have none
+-- the size of a forward reference's definition after it; other types have none
 abbrev pub size_elsewhere : ℕ → List (Item TypeIndex TypeData) → Aggregate → Option ℕ
 size_elsewhere number items a = if a.forward_reference then size_behind number a.name items else None
 

@@ -18,7 +18,7 @@ function_entry bytes = record {
   info = little_number 4 (drop 8 bytes);
 }
 
--- how many entries a directory has: as many as its size says, if its section has bytes for them
+-- the number of entries in a directory: as many as its size allows and as its section has bytes for
 abbrev pub entry_count : DataDirectory → List ℕ → ℕ
 entry_count directory bytes = min directory.size (length bytes) / 12
 
