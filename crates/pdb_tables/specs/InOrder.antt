@@ -6,7 +6,7 @@ abbrev pub put : {T : Type 0} → (T → T → Bool) → T → List T → List T
 put before x [] = x ∷ []
 put before x (y ∷ ys) = if before y x then y ∷ put before x ys else x ∷ y ∷ ys
 
--- the elements in order; of two that are neither before the other, the first stays first
+-- the elements sorted by `before`; the sort is stable
 abbrev pub in_order : {T : Type 0} → (T → T → Bool) → List T → List T
 in_order before [] = []
 in_order before (x ∷ xs) = put before x (in_order before xs)

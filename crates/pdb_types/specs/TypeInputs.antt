@@ -1,4 +1,4 @@
--- The type inputs: what answers about types are computed from.
+-- The type inputs: the data from which answers about types are computed.
 use Rattle.std.specs.Prelude.{ℕ, List, Option, Result, Ok, Err}
 use Rattle.pdb_records.specs.Readings.{Read}
 use Rattle.pdb_records.specs.declared.error.StreamError.{StreamError}
