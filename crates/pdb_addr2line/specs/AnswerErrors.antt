@@ -1,4 +1,4 @@
--- What an answer may hold in place of frames or of a text.
+-- The errors that an answer may have instead of frames or a text.
 use Rattle.std.specs.Prelude.{⊤, Result, Ok, Err}
 use Rattle.pdb_errors.specs.declared.error.Error.{Error}
 use Rattle.pdb_errors.specs.declared.error.Error.TheVariants.{PdbError, ExtendedModuleInfoUnsuccessful}
@@ -7,7 +7,7 @@ use Rattle.pdb_errors.specs.declared.error.Error.TheVariants.{ProcedureInlineRan
 use Rattle.pdb_addr2line.specs.Calls.{AnswerView, FramesView, TextView}
 use Rattle.pdb_laws.specs.PrintErrors.{IsPrintError}
 
--- an error of the records of code, or that a part of them failed before
+-- an error in the records of code, or of a part of them that failed before
 abbrev pub IsCodeError : Error → Type 0
 IsCodeError (PdbError e) = ⊤
 IsCodeError ExtendedModuleInfoUnsuccessful = ⊤
@@ -20,8 +20,7 @@ abbrev pub IsRefusedByCode : {A : Type 0} → Result A Error → Type 0
 IsRefusedByCode (Ok answer) = ⊤
 IsRefusedByCode (Err e) = IsCodeError e
 
--- in place of frames an answer holds no other error than one of the records of code, and in place of a text no other
--- than one that printing is refused for
+-- an answer of frames has no error but one in the records of code; an answer of a text has no error but one of printing
 abbrev pub HoldsErrorOfRecords : AnswerView → Type 0
 HoldsErrorOfRecords (FramesView frames) = IsRefusedByCode frames
 HoldsErrorOfRecords (TextView (Ok text)) = ⊤

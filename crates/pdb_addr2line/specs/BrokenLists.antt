@@ -1,4 +1,4 @@
--- A list of symbols in which two sites of one depth have ranges over the same code.
+-- An example: a list of symbols in which two inline sites of one depth have ranges over the same code.
 use Rattle.std.specs.Prelude.{ℕ, List, [], ◌∷◌, Some, None}
 use Rattle.pdb_records.specs.declared.ids.IdIndex.{IdIndex}
 use Rattle.pdb_records.specs.declared.symbols.InlineRow.{InlineRow}
@@ -6,7 +6,7 @@ use Rattle.pdb_records.specs.declared.symbols.Symbol.{Symbol}
 use Rattle.pdb_records.specs.declared.symbols.SymbolData.TheVariants.{InlineSite, Other}
 use Rattle.pdb_inline.specs.Sites.{Site, walk}
 
--- the ids that are inlined
+-- the ids of the inlined functions
 abbrev pub inlinees : List IdIndex
 inlinees = record { 0 = 4097 } ∷ record { 0 = 4098 } ∷ record { 0 = 4099 } ∷ []
 
@@ -14,7 +14,7 @@ inlinees = record { 0 = 4097 } ∷ record { 0 = 4098 } ∷ record { 0 = 4099 } �
 abbrev pub row : InlineRow
 row = record { offset = 32; length = Some 16; file_index = record { 0 = 0 }; line_start = 0 }
 
--- a symbol that opens a site of an id, with these rows, and closed by the symbol at a position
+-- a symbol that opens an inline site of an id, with these rows; the symbol at a position closes it
 abbrev pub site : ℕ → ℕ → List InlineRow → Symbol
 site inlinee end rows = record {
   raw_kind = 4429;
@@ -29,8 +29,8 @@ site inlinee end rows = record {
 abbrev pub other : Symbol
 other = record { raw_kind = 4430; content = Some Other }
 
--- the symbols of a procedure: a site without rows, inside it a site with the row, and after both a third site with
--- the same row
+-- the symbols of a procedure: a site without rows, inside it a site with the row, and after both a third site with the
+-- same row
 abbrev pub own_row_beside_an_added_range : List Symbol
 own_row_beside_an_added_range =
     other ∷ site 4097 4 [] ∷ site 4098 3 (row ∷ []) ∷ other ∷ other

@@ -1,4 +1,4 @@
--- Calls of a context, and what it answers to them.
+-- Calls of a context, and their answers.
 use Rattle.std.specs.Prelude.{◌≡◌, ℕ, List, [], ◌∷◌, ◌++◌, Option, Some, None, Result, Ok, Err, length, map, option_map}
 use Rattle.std.specs.Prelude.{string_bytes}
 use Rattle.std.specs.Result.{result_map_both, result_ok}
@@ -21,7 +21,7 @@ use Rattle.pdb_addr2line.specs.FunctionIter.{after_functions, OnlyGainsBroken}
 use Rattle.pdb_addr2line.specs.Lookups.{function_at, frames_answered, failed_after_frames, code_failed_after}
 use Rattle.pdb_addr2line.specs.ContextInputs.{ContextState, ContextInputs, global_functions_of}
 
--- what an answer shows
+-- the model of an answer
 pub data AnswerView : Type 0 where
   FunctionView : Option FunctionInfo → AnswerView
   FramesView : Result (Option FramesInfo) Error → AnswerView
@@ -30,7 +30,7 @@ pub data AnswerView : Type 0 where
   SizeView : ℕ → AnswerView
   TextView : Result (List ℕ) ErrorView → AnswerView
 
--- what the code's answer shows
+-- the model of the code's answer
 abbrev pub answer_view : Answer → AnswerView
 answer_view (answer.Function f) = FunctionView (option_map function_view f)
 answer_view (answer.Frames frames) = FramesView frames
@@ -39,17 +39,17 @@ answer_view (answer.Count count) = CountView count
 answer_view (answer.Size size) = SizeView size
 answer_view (answer.Text text) = TextView (result_map_both string_bytes error_view text)
 
--- a text that was printed, or the error of the failure in its place
+-- a printed text, or the error of printing
 abbrev pub text_unless : Option PrintError → List ℕ → Result (List ℕ) ErrorView
 text_unless None text = Ok text
 text_unless (Some failure) text = Err (failure_error failure)
 
--- what printing answers: the text, or the error where it failed
+-- the result of printing: the text, or the error if it failed
 abbrev pub printed : Run → Result (List ℕ) ErrorView
 printed r = text_unless r.fault r.text
 
--- the answer to one call: what a plain scan of the records shows, save that a part of them that failed before says
--- that it did
+-- the answer to one call: the result of a plain scan of the records, except that a part that failed before gives the
+-- error for this
 abbrev pub answer_to : {P : Type 0} → (P → ProviderInfos) → ContextState P → Call → AnswerView
 answer_to info c (FindFunction address) = FunctionView (function_at info c.inputs address)
 answer_to info c (FindFrames address) = FramesView (frames_answered info c address)
@@ -60,7 +60,7 @@ answer_to info c (FormatFunction name m index) =
     TextView (printed (signature_run info c.inputs.type_inputs m name.now index.0 c.failed))
 answer_to info c (FormatId m index) = TextView (printed (id_run info c.inputs.type_inputs m index.0 c.failed))
 
--- a context once the frames over an address are answered
+-- a context after the frames at an address
 abbrev pub after_frames : {P : Type 0} → (P → ProviderInfos) → ContextState P → ℕ → ContextState P
 after_frames info c address = record {
   inputs = c.inputs;
@@ -68,11 +68,11 @@ after_frames info c address = record {
   code_failed = code_failed_after info c address;
 }
 
--- a context with these parts failed, of those that its formatter remembers
+-- a context in whose formatter these parts have failed
 abbrev pub with_failed : {P : Type 0} → ContextState P → Parts → ContextState P
 with_failed c failed = record { inputs = c.inputs; failed = failed; code_failed = c.code_failed }
 
--- a context once a call is answered: parts of the records that were met broken have failed
+-- a context after a call; broken parts of the records that it found have failed
 abbrev pub after_call : {P : Type 0} → (P → ProviderInfos) → ContextState P → Call → ContextState P
 after_call info c (FindFunction address) = after_function info c address
 after_call info c (FindFrames address) = after_frames info c address
@@ -85,7 +85,7 @@ after_call info c (FormatFunction name m index) =
 after_call info c (FormatId m index) =
     with_failed c (id_run info c.inputs.type_inputs m index.0 c.failed).failed
 
--- a context once calls are answered, one after the other
+-- a context after several calls
 abbrev pub after_calls : {P : Type 0} → (P → ProviderInfos) → ContextState P → List Call → ContextState P
 after_calls info c [] = c
 after_calls info c (call ∷ calls) = after_calls info (after_call info c call) calls
@@ -95,14 +95,14 @@ abbrev pub answers_to : {P : Type 0} → (P → ProviderInfos) → ContextState 
 answers_to info c [] = []
 answers_to info c (call ∷ calls) = answer_to info c call ∷ answers_to info (after_call info c call) calls
 
--- a list of answers is longer by answers that show this
+-- a list of answers, to which answers with these models were appended
 pub record Appends (before after : List Answer) (wanted : List AnswerView) : Type 0 where
   pub appended : List Answer
   pub is : after ≡ before ++ appended
   pub shown : map answer_view appended ≡ wanted
 
--- a context and a list of answers where memory ran out: some first calls are answered, and the one after them counts
--- as not made
+-- a context and a list of answers after an allocation failure: some first calls are answered, and the one after them
+-- counts as not made
 pub record StopsEarly {P : Type 0} (info : P → ProviderInfos) (before : ContextState P) (calls : List Call)
     (answers answers' : List Answer) (after : ContextState P) : Type 0 where
   pub made : List Call
@@ -116,7 +116,7 @@ pub record StopsEarly {P : Type 0} (info : P → ProviderInfos) (before : Contex
 abbrev pub fresh : {P : Type 0} → ContextInputs P → ContextState P
 fresh s = record { inputs = s; failed = []; code_failed = [] }
 
--- what an answer shows, unless it is an error
+-- the model of an answer, unless it is an error
 abbrev pub successful : AnswerView → Option AnswerView
 successful (FramesView frames) = option_map (λ f. FramesView (Ok f)) (result_ok frames)
 successful (TextView text) = option_map (λ t. TextView (Ok t)) (result_ok text)

@@ -14,12 +14,12 @@ use Rattle.pdb_errors.specs.Outcomes.{streamed, unless, first_refusal, and_then}
 use Rattle.pdb_types.specs.TypeInputs.{TypeInputs, program_pointer_size}
 use Rattle.pdb_addr2line.specs.ContextInputs.{ContextInputs, accepted}
 
--- a stream's fault, where it failed
+-- the fault of a stream, if it has one
 abbrev pub stream_refusal : {A : Type 0} → Result A StreamError → Option Error
 stream_refusal (Ok content) = None
 stream_refusal (Err fault) = Some (PdbError (Stream fault))
 
--- the first stream that failed of those that a context can't do without
+-- the error of the first unreadable stream among those that a context needs
 abbrev pub records_refusal : Records → Option Error
 records_refusal r =
     first_refusal (stream_refusal r.global_symbols) (
@@ -28,7 +28,7 @@ records_refusal r =
     first_refusal (stream_refusal r.id_information) (
     stream_refusal r.address_map))))
 
--- what the records hold of the module at a module index; past the list there is nothing
+-- the records of the module with this index; `None` after the last module
 abbrev pub info_at : Records → ℕ → Result (Option ModuleInfo) StreamError
 info_at r index = unwrap_or (slice_get r.module_infos index) (Ok None)
 
@@ -38,17 +38,17 @@ sections_read r =
     and_then (streamed r.sections) (λ sections.
     Ok (unwrap_or sections []))
 
--- why signatures can't be answered: a fault of the list of modules, and then a machine that could not be read
+-- why signatures can't be printed: a fault of the list of modules, or an unreadable machine
 abbrev pub formatter_refusal : DebugInformation → Option Error
 formatter_refusal debug =
     first_refusal (option_map (λ fault. PdbError (Stream fault)) debug.modules.fault) (
     stream_refusal debug.machine_type)
 
--- the flags where none are chosen: no return types, no `static`, a space after commas, and names alone
+-- the default flags: no return types, no `static`, a space after commas, and only names
 abbrev pub default_flags : TypeFormatterFlags
 default_flags = record { 0 = 23 }
 
--- the type inputs of the formatter of these records: refused for the list of modules and the machine
+-- the type inputs of the formatter of these records; an error for a faulty list of modules or machine
 abbrev pub formatter_of : TypeFormatterFlags → Records → Result (TypeInputs Records) Error
 formatter_of flags r =
     and_then (streamed r.debug_information) (λ debug.
@@ -66,8 +66,7 @@ formatter_of flags r =
       flags = flags;
     }))))))
 
--- the context over these records whose formatter has these type inputs: refused for the sections, and then as a
--- context over their contents is
+-- the context over these records with these type inputs; an error for faulty sections or faulty contents
 abbrev pub context_over : Records → TypeInputs Records → Result (ContextInputs Records) Error
 context_over r type_inputs =
     and_then (streamed r.debug_information) (λ debug.
@@ -84,6 +83,6 @@ context_over r type_inputs =
       type_inputs = type_inputs;
     })))))
 
--- the context of these records: refused as their formatter is, and then as one over them with that formatter
+-- the context of these records; an error if the formatter or the rest of the context has one
 abbrev pub context_of : TypeFormatterFlags → Records → Result (ContextInputs Records) Error
 context_of flags r = and_then (formatter_of flags r) (context_over r)

@@ -17,8 +17,8 @@ use Rattle.pdb_frames.specs.CodeParts.{CodeParts}
 use Rattle.pdb_functions.specs.MergedContributions.{merged_contributions}
 use Rattle.pdb_functions.specs.GlobalFunctions.{GlobalFunction, global_functions}
 
--- what a context was made of: records for look-ups, and the type inputs of its formatter, whose list of modules
--- look-ups go by too
+-- the inputs of a context: records for lookups, and the type inputs of its formatter, whose list of modules lookups use
+-- too
 pub record ContextInputs (P : Type 0) : Type 0 where
   pub provider : P
   pub sections : List ImageSectionHeader
@@ -28,14 +28,14 @@ pub record ContextInputs (P : Type 0) : Type 0 where
   pub debug_information : DebugInformation
   pub type_inputs : TypeInputs P
 
--- a context: its inputs, the parts of the records that its formatter met broken, and those of the records of
--- code that it met broken itself
+-- the state of a context: its inputs, the broken parts of the records that its formatter found, and those of the
+-- records of code
 pub record ContextState (P : Type 0) : Type 0 where
   pub inputs : ContextInputs P
   pub failed : Parts
   pub code_failed : CodeParts
 
--- the contributions of these records, merged; a context has none that are refused
+-- the merged contributions of these records; a context never has refused ones
 abbrev pub contributions_of : {P : Type 0} → ContextInputs P → List ModuleSectionContribution
 contributions_of s = result_unwrap_or (merged_contributions s.sections s.debug_information) []
 
@@ -43,7 +43,7 @@ contributions_of s = result_unwrap_or (merged_contributions s.sections s.debug_i
 abbrev pub global_functions_of : {P : Type 0} → ContextInputs P → List GlobalFunction
 global_functions_of s = global_functions s.sections s.global_symbols.symbols.items s.debug_information
 
--- the merged contributions that look-ups search: refused for the fault of the global symbols, then as merging refuses
+-- the merged contributions for lookups; an error for a fault of the global symbols, or if merging refuses them
 abbrev pub searched_contributions : List ImageSectionHeader → SymbolTable → DebugInformation
     → Result (List ModuleSectionContribution) Error
 searched_contributions sections global_symbols debug =

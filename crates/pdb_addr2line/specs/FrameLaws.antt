@@ -1,4 +1,4 @@
--- What follows from the definition of frames.
+-- Laws on frames.
 use Rattle.std.specs.Prelude.{◌≡◌, ℕ, ◌+◌, List, [], ◌∷◌, ◌++◌, Option, Some, None, Ok, Contains, IsTrue}
 use Rattle.pdb_records.specs.LinePrograms.{Lines}
 use Rattle.pdb_records.specs.declared.ids.IdIndex.{IdIndex}
@@ -17,8 +17,8 @@ use Rattle.pdb_function_info.specs.Function.{FunctionInfo}
 abbrev pub sites_of : ModuleInfo → ModuleProcedure → List Site
 sites_of info p = (walk info.symbols.items info.symbols.fault p.symbol_index.0 p.end_symbol_index.0).sites
 
--- at how many depths the rows of inline sites of a function cover an offset: at none where there are no records of its
--- module, and at none in a global function
+-- the number of depths at which rows of a function's inline sites cover an offset; 0 without records of its module, and
+-- in a global function
 abbrev pub levels_over : Option ModuleInfo → FunctionMatch → ℕ → ℕ
 levels_over None found x = 0
 levels_over (Some info) (found_global m f) x = 0
@@ -32,14 +32,14 @@ pub record EndIn (frames : List FrameInfo) (name : Option (List ℕ)) : Type 0 w
   pub split : frames ≡ inner ++ own ∷ []
   pub named : own.function ≡ name
 
--- the function info and the frames info of a function agree: where it starts and ends, and the name of the last frame
+-- the function info and the frames info of a function agree on its start and its end, and on the name of the last frame
 pub record Agree (function : FunctionInfo) (frames_info : FramesInfo) : Type 0 where
   pub start_rva : frames_info.start_rva ≡ function.start_rva
   pub end_rva : frames_info.end_rva ≡ function.end_rva
   pub name : EndIn frames_info.frames function.name
 
--- a frame is of an inline site of a procedure: it shows a range of the site that lies over an offset, with the files
--- of the module's line program, and with the name of the site's id
+-- a frame belongs to an inline site of a procedure: it has a range of the site that covers an offset, a file of the
+-- module's line program, and the name of the site's id
 pub record IsFrameOf (strings : Strings) (name_of : IdIndex → Option (List ℕ)) (info : ModuleInfo) (p : ModuleProcedure)
     (x : ℕ) (site : Site) (frame : FrameInfo) : Type 0 where
   pub range : InlineRange
@@ -49,8 +49,8 @@ pub record IsFrameOf (strings : Strings) (name_of : IdIndex → Option (List ℕ
   pub read : info.line_program ≡ Ok program
   pub shown : frame ≡ inlined_frame strings program (name_of range.inlinee) range
 
--- two frames are of two sites of a procedure, the first of a site of this level, and the second of one a level deeper,
--- which lies directly inside that of the first
+-- two frames belong to two inline sites of a procedure: the first to a site of this level, and the second to a site
+-- directly inside it
 pub record AreNestedFrames (strings : Strings) (name_of : IdIndex → Option (List ℕ)) (info : ModuleInfo)
     (p : ModuleProcedure) (x level : ℕ) (frame inner_frame : FrameInfo) : Type 0 where
   pub outer : Site

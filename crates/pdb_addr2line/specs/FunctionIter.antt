@@ -15,54 +15,55 @@ use Rattle.pdb_addr2line.specs.Lookups.{function_at, failed_after}
 use Rattle.pdb_function_info.specs.NameTexts.{GainsBrokenParts}
 use Rattle.pdb_addr2line.specs.ContextInputs.{ContextInputs, ContextState, global_functions_of}
 
--- the procedures of modules whose module indices are counted from here on, module by module
+-- the procedures of modules, module by module; `module_index` is that of the first
 abbrev pub procedures_of_modules : ProviderInfos → ℕ → List Module → List ModuleProcedure
 procedures_of_modules infos module_index [] = []
 procedures_of_modules infos module_index (m ∷ ms) =
     provided_procedures (infos module_index m) ++ procedures_of_modules infos (module_index + 1) ms
 
--- the section offsets where functions start: of the global functions, and then of the procedures of all modules
+-- the section offsets at which functions start: those of global functions, then those of the procedures of all modules
 abbrev pub start_section_offsets : {P : Type 0} → (P → ProviderInfos) → ContextInputs P → List PdbInternalSectionOffset
 start_section_offsets info s =
     map (λ f. f.start) (global_functions_of s)
     ++ map (λ p. p.offset) (procedures_of_modules (info s.provider) 0 s.type_inputs.modules)
 
--- addresses in order, and among them that of a section offset, where it has one
+-- addresses in order, with that of a section offset, if it has one
 abbrev pub with_start : List AddressRange → List ℕ → PdbInternalSectionOffset → List ℕ
 with_start sections starts section_offset =
     option_map_or (λ address. insert_key nat_cmp starts address.0) (rva sections section_offset) starts
 
--- the same, with those of many section offsets
+-- addresses in order, with those of several section offsets
 abbrev pub with_starts : List AddressRange → List ℕ → List PdbInternalSectionOffset → List ℕ
 with_starts sections starts section_offsets = fold (with_start sections) starts section_offsets
 
--- the addresses where functions start, ascending and each once
+-- the start addresses of functions, sorted and without duplicates
 abbrev pub start_addresses : {P : Type 0} → (P → ProviderInfos) → ContextInputs P → List ℕ
 start_addresses info s = with_starts s.address_map [] (start_section_offsets info s)
 
--- the functions over these addresses, where there are any
+-- the functions at these addresses, as far as there are any
 abbrev pub functions_at : {P : Type 0} → (P → ProviderInfos) → ContextInputs P → List ℕ → List FunctionInfo
 functions_at info s addresses = filter_map (function_at info s) addresses
 
--- the functions of a program: those over the addresses where functions start
+-- the functions of a program: those at the start addresses
 abbrev pub functions_of : {P : Type 0} → (P → ProviderInfos) → ContextInputs P → List FunctionInfo
 functions_of info s = functions_at info s (start_addresses info s)
 
--- a context once it answered the function over an address
+-- a context after the function at an address
 abbrev pub after_function : {P : Type 0} → (P → ProviderInfos) → ContextState P → ℕ → ContextState P
 after_function info c address = record c { failed = failed_after info c.inputs address c.failed }
 
--- a context once it answered the functions over these addresses, one after the other
+-- a context after the functions at these addresses, in order
 abbrev pub after_functions : {P : Type 0} → (P → ProviderInfos) → ContextState P → List ℕ → ContextState P
 after_functions info c addresses = fold (after_function info) c addresses
 
--- a context has the same inputs, and of further parts of the records it remembers only broken ones, and none of code
+-- a context keeps its inputs, and remembers only broken parts of the records beside those before; none of them are of
+-- code
 pub record OnlyGainsBroken {P : Type 0} (info : P → ProviderInfos) (before after : ContextState P) : Type 0 where
   pub inputs : after.inputs ≡ before.inputs
   pub broken : GainsBrokenParts info before.inputs.type_inputs before.failed after.failed
   pub code_failed : after.code_failed ≡ before.code_failed
 
--- a context that answered the functions over the first of these addresses, and then had no memory to answer another
+-- a context that found the functions at the first of these addresses, and then had an allocation failure
 pub record IsCutShort {P : Type 0} (info : P → ProviderInfos) (before after : ContextState P) (addresses : List ℕ)
     : Type 0 where
   pub done : ℕ

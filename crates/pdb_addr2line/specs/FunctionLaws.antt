@@ -1,4 +1,4 @@
--- What follows of start addresses, in words of its own.
+-- Laws on start addresses, in words of their own.
 use Rattle.std.specs.Prelude.{◌≡◌, ◌⊎◌, ◌<◌, ℕ, List, [], ◌∷◌, Some, ⊤}
 use Rattle.std.specs.List.{AllByRecursion, Contains}
 use Rattle.pdb_records.specs.Addresses.{rva}
@@ -8,7 +8,7 @@ use Rattle.pdb_functions.specs.FunctionMatches.{procedures_of_module}
 use Rattle.pdb_functions.specs.Procedures.{ModuleProcedure}
 use Rattle.pdb_addr2line.specs.ContextInputs.{ContextInputs, global_functions_of}
 
--- each address is below all that follow, so each stands once
+-- the addresses ascend, without duplicates
 abbrev pub Ascend : List ℕ → Type 0
 Ascend [] = ⊤
 Ascend (address ∷ addresses) = AllByRecursion (λ later. address < later) addresses × Ascend addresses

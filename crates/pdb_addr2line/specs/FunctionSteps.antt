@@ -1,4 +1,4 @@
--- How the functions of a program are answered one by one.
+-- Steps of the iterator over the functions of a program.
 use Rattle.std.specs.Prelude.{◌≡◌, ℕ, List, [], ◌∷◌, ◌++◌, Option, Some, None, Result, Ok, Err}
 use Rattle.std.specs.Vec.Iter.{into_iter_items}
 use Rattle.pdb_errors.specs.declared.error.Error.{Error}
@@ -15,18 +15,18 @@ use Rattle.pdb_addr2line.specs.ContextInputs.{ContextState}
 abbrev pub untried : {P : Type 0} → FunctionIter P → List ℕ
 untried it = into_iter_items it.untried
 
--- the context that an iterator asks
+-- the context that an iterator uses
 abbrev pub lender : {P : Type 0} → FunctionIter P → ContextState P
 lender it = it.context.now
 
--- addresses are passed that no function lies over, and others are left; the context answered that there is none
+-- the iterator skips addresses without a function, and others are left; the context found no function at those
 pub record Passes {P : Type 0} (info : P → ProviderInfos) (before after : ContextState P) (all passed left : List ℕ)
     : Type 0 where
   pub split : all ≡ passed ++ left
   pub none : functions_at info before.inputs passed ≡ []
   pub state : after ≡ after_functions info before passed
 
--- after addresses that are passed, a function lies over one, and the context answered it
+-- after skipped addresses, the context found a function at the next one
 pub record Finds {P : Type 0} (info : P → ProviderInfos) (before after : ContextState P) (all left : List ℕ)
     (found : FunctionInfo) : Type 0 where
   pub passed : List ℕ
@@ -36,7 +36,7 @@ pub record Finds {P : Type 0} (info : P → ProviderInfos) (before after : Conte
   pub function : function_at info before.inputs address ≡ Some found
   pub state : after ≡ after_function info between address
 
--- after addresses that are passed, the context had no memory to answer one
+-- after skipped addresses, the context had an allocation failure at the next one
 pub record Fails {P : Type 0} (info : P → ProviderInfos) (before after : ContextState P) (all left : List ℕ)
     (error : Error)
     : Type 0 where
@@ -47,15 +47,15 @@ pub record Fails {P : Type 0} (info : P → ProviderInfos) (before after : Conte
   pub memory : error ≡ OutOfMemory
   pub interrupted : OnlyGainsBroken info between after
 
--- the answer next for untried addresses, where others are left then: the first function, or out of memory; nothing
--- where no function lies over any of them
+-- the next answer for untried addresses, and the addresses left after it: the first function, or an allocation failure;
+-- `None` if no address has a function
 abbrev pub Continues : {P : Type 0} → (P → ProviderInfos) → ContextState P → ContextState P → List ℕ → List ℕ
     → Option (Result Function Error) → Type 0
 Continues info before after all left (Some (Ok function)) = Finds info before after all left (function_view function)
 Continues info before after all left (Some (Err error)) = Fails info before after all left error
 Continues info before after all left None = (left ≡ []) × Passes info before after all all left
 
--- what an iterator answers next, and that it goes on with the context that it asked
+-- the next answer of an iterator, which keeps the context that it uses
 pub record ContinuesNext {P : Type 0} (info : P → ProviderInfos) (before : FunctionIter P)
     (answer : Option (Result Function Error))
     (after : FunctionIter P) : Type 0 where

@@ -1,4 +1,4 @@
--- Records, owned or lent.
+-- Records, owned or borrowed.
 use Rattle.pdb_records.specs.Records.{Records}
 use Rattle.pdb_addr2line.specs.declared.context_data.MaybeOwned.{MaybeOwned}
 use Rattle.pdb_addr2line.specs.declared.context_data.MaybeOwned.TheVariants.{Owned, Lent}

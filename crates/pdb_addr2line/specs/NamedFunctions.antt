@@ -1,4 +1,4 @@
--- Functions that go by the names of their symbols where they have no other.
+-- Functions that get the name of their symbol if they have no other.
 use Rattle.std.specs.Prelude.{ℕ, List, [], ◌∷◌, Option, option_map, option_and_then, Result, Ok, Err}
 use Rattle.std.specs.Option.{option_or}
 use Rattle.pdb_records.specs.Provided.{ProviderInfos}
@@ -9,38 +9,38 @@ use Rattle.pdb_function_info.specs.NameTexts.{symbol_name}
 use Rattle.pdb_addr2line.specs.ContextInputs.{ContextInputs, ContextState}
 use Rattle.pdb_addr2line.specs.Lookups.{found_at, function_at, frames_answered}
 
--- the name of the symbol of the function over an address
+-- the name of the symbol of the function at an address
 abbrev pub symbol_name_at : {P : Type 0} → (P → ProviderInfos) → ContextInputs P → ℕ → Option (List ℕ)
 symbol_name_at info s address = option_and_then symbol_name (found_at info s address)
 
--- a function, by this name where it has none
+-- a function, which gets this name if it has none
 abbrev pub named_function : Option (List ℕ) → FunctionInfo → FunctionInfo
 named_function name f = record f { name = option_or f.name name }
 
--- a frame, by this name where it has none
+-- a frame, which gets this name if it has none
 abbrev pub named_frame : Option (List ℕ) → FrameInfo → FrameInfo
 named_frame name f = record f { function = option_or f.function name }
 
--- frames, of which the last goes by this name where it has none
+-- frames, the last of which gets this name if it has none
 abbrev pub named_last : Option (List ℕ) → List FrameInfo → List FrameInfo
 named_last name [] = []
 named_last name (f ∷ []) = named_frame name f ∷ []
 named_last name (f ∷ next ∷ rest) = f ∷ named_last name (next ∷ rest)
 
--- the frames of a function, which goes by this name where it has none
+-- the frames of a function, which gets this name if it has none
 abbrev pub named_frames : Option (List ℕ) → FramesInfo → FramesInfo
 named_frames name f = record f { frames = named_last name f.frames }
 
--- the function over an address, by its symbol's name where it has no other
+-- the function at an address; without a name it gets that of its symbol
 abbrev pub named_function_at : {P : Type 0} → (P → ProviderInfos) → ContextInputs P → ℕ → Option FunctionInfo
 named_function_at info s address = option_map (named_function (symbol_name_at info s address)) (function_at info s address)
 
--- an answer of frames, whose function goes by this name where it has none
+-- an answer of frames, whose function gets this name if it has none
 abbrev pub named_answer : Option (List ℕ) → Result (Option FramesInfo) Error → Result (Option FramesInfo) Error
 named_answer name (Ok found) = Ok (option_map (named_frames name) found)
 named_answer name (Err error) = Err error
 
--- the answer for the frames over an address, whose function goes by its symbol's name where it has no other
+-- the answer for the frames at an address; a function without a name gets that of its symbol
 abbrev pub named_frames_answered : {P : Type 0} → (P → ProviderInfos) → ContextState P → ℕ
     → Result (Option FramesInfo) Error
 named_frames_answered info c address =

@@ -1,4 +1,4 @@
-//! What a context read of the records so far, so that it is read once: procedures, code, and where functions start.
+//! `Caches`: what a context has read from the records, such as procedures, code, and where functions start.
 
 ghost use Rattle.std.specs.Prelude.{◌≡◌, Some, None, option_map, IfOk};
 ghost use Rattle.pdb_functions.specs.ModuleInfoCache.{readable_info};
@@ -12,19 +12,19 @@ use pdb_functions::{BasicModuleInfoCache, FunctionMatch};
 use pdb_records::{Module, ModuleProvider};
 use std::alloc::{AllocError, Global};
 
-// What a context read so far, so that it is read once. The names that it printed stand with its formatter.
+// What a context has read so far, so that it is read once. Printed names are cached in its formatter.
 #[derive(Drop)]
 pub(crate) struct Caches<'a, P: ModuleProvider> {
     // The procedures of modules.
     pub(crate) infos: BasicModuleInfoCache<'a, P>,
     // Line programs, rows and inline ranges.
     pub(crate) code: CodeCache<'a>,
-    // Where functions start, once that was asked.
+    // Where functions start, after that was asked for the first time.
     pub(crate) starts: Option<Vec<u32>>,
 }
 
 impl<'a, P: ModuleProvider> Caches<'a, P> {
-    // Nothing yet. It takes no memory.
+    // Empty caches. They take no memory.
     pub(crate) fn new(alloc: Global, provider: &'a P) -> Self
         ensures infos { result.infos.provider ≡ provider.now }
         ensures is_cache { (records : ModuleRecords) → IsCodeCache records result.code }
@@ -38,8 +38,7 @@ impl<'a, P: ModuleProvider> Caches<'a, P> {
     }
 }
 
-// The part that is to blame where the frames of a function that was found are refused, by the records of its
-// module.
+// The part of the records that is broken, if the frames of a function can't be found.
 pub(crate) fn part_blamed_by<'a, P: ModuleProvider>(
     caches: &mut Caches<'a, P>,
     modules: &[Module],

@@ -1,4 +1,4 @@
-//! Questions to a context as values, and the answers to them.
+//! `Call` and `Answer`: questions to a context as values, and the answers to them.
 
 use pdb_errors::Result;
 use pdb_frames::FunctionFrames;
@@ -16,29 +16,29 @@ pub enum Call<'n> {
     Functions,
     /// [`Context::function_count`](crate::Context::function_count).
     FunctionCount,
-    /// The size in bytes of a type, for an index as the module at this module index writes it.
+    /// The size of a type in bytes. Its index is one that the module at this module index uses.
     TypeSize(usize, TypeIndex),
-    /// The signature of a function of this name, with the type of an index as the module at this module index
-    /// writes it.
+    /// The signature of a function with this name and type. The type's index is one that the module at this module
+    /// index uses.
     FormatFunction(&'n str, usize, TypeIndex),
-    /// The text of an id, for an index as the module at this module index writes it.
+    /// The text of an id. Its index is one that the module at this module index uses.
     FormatId(usize, IdIndex),
 }
 
-/// What a [`Context`](crate::Context) answers to a [`Call`]. It never holds
+/// The answer of a [`Context`](crate::Context) to a [`Call`]. It never contains
 /// [`Error::OutOfMemory`](crate::Error::OutOfMemory).
 #[derive(Drop)]
 pub enum Answer<'a> {
-    /// To [`Call::FindFunction`].
+    /// The answer to [`Call::FindFunction`].
     Function(Option<Function>),
-    /// To [`Call::FindFrames`].
+    /// The answer to [`Call::FindFrames`].
     Frames(Result<Option<FunctionFrames<'a>>>),
-    /// To [`Call::Functions`], by ascending start.
+    /// The answer to [`Call::Functions`], sorted by start.
     Functions(Vec<Function>),
-    /// To [`Call::FunctionCount`].
+    /// The answer to [`Call::FunctionCount`].
     Count(usize),
-    /// To [`Call::TypeSize`], in bytes.
+    /// The answer to [`Call::TypeSize`], in bytes.
     Size(u64),
-    /// To [`Call::FormatFunction`] and [`Call::FormatId`].
+    /// The answer to [`Call::FormatFunction`] and [`Call::FormatId`].
     Text(Result<String>),
 }

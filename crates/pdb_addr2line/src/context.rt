@@ -1,4 +1,4 @@
-//! `Context`, which answers questions about the functions of a program, and how the tables are made that it searches.
+//! `Context`: answers questions about the functions of a program, by lookup tables that it makes from the records.
 
 ghost use Rattle.std.specs.Prelude.{◌≡◌, [], Ok, length, IfOk};
 ghost use Rattle.std.specs.Option.{option_copied};
@@ -22,18 +22,18 @@ use pdb_type_printer::TypeFormatter;
 use std::alloc::Global;
 use std::marker::Model;
 
-// What look-ups search.
+// The tables that lookups search.
 #[derive(Drop)]
 pub(crate) struct Tables<'a> {
     pub(crate) sections: Vec<ImageSectionHeader>,
     pub(crate) contributions: ContributionTable,
     pub(crate) global_functions: GlobalFunctionTable<'a>,
     pub(crate) file_names: FileNames<'a>,
-    // The sections of addresses.
+    // Finds the section of an address.
     pub(crate) section_table: SectionTable<'a>,
 }
 
-// The tables of these records.
+// Makes the lookup tables of these records.
 fn tables_of<'a>(
     alloc: Global,
     sections: &[ImageSectionHeader],
@@ -70,10 +70,9 @@ fn tables_of<'a>(
 /// Answers questions about the functions of a program.
 ///
 /// The inputs of a context are records that it borrows, a [`ModuleProvider`] for those of each module, and a
-/// [`TypeFormatter`], by which procedures get their names. What it answers is what a plain scan of the
-/// records would answer. Of what happens between two questions it remembers one thing that later answers
-/// show: which parts of the records it met broken. Such a part answers its own error when it is met first, and
-/// from then on that it failed before.
+/// [`TypeFormatter`] that prints the names of procedures. Its answers equal those of a plain scan of the records,
+/// except for one thing that it remembers between questions: which parts of the records it found broken. A broken part
+/// gives its own error the first time, and afterwards the error that it failed before.
 pub struct Context<'a, P: ModuleProvider> {
     pub(crate) alloc: Global,
     pub(crate) provider: &'a P,
@@ -149,13 +148,13 @@ impl<'a, P: ModuleProvider> Model for Context<'a, P> {
 }
 
 impl<'a, P: ModuleProvider> Context<'a, P> {
-    /// A context over these records, with this formatter, for callers who have records that no
-    /// [`ContextPdbData`](crate::ContextPdbData) holds. Module indices are those of the formatter's
-    /// list. The formatter's type inputs may be of other records than these: names are printed by its own.
+    /// Makes a context over these records, with this formatter, for callers whose records aren't in a
+    /// [`ContextPdbData`](crate::ContextPdbData). Module indices are those of the formatter's list. The formatter may
+    /// have been made from other records: names are printed from its own.
     ///
     /// # Errors
     ///
-    /// [`Error::PdbError`] for the fault of the global symbols, and then the errors of
+    /// [`Error::PdbError`] with the fault of the global symbols, if they end early; then the errors of
     /// [`compute_section_contributions`].
     pub fn new_from_parts(
         alloc: Global,
@@ -200,7 +199,7 @@ impl<'a, P: ModuleProvider> Context<'a, P> {
         })
     }
 
-    /// The formatter back, with what it remembers.
+    /// Returns the formatter, with everything that it remembers.
     pub fn into_type_formatter(self) -> TypeFormatter<'a, P>
         ensures type_inputs { result.type_inputs ≡ self.entry.inputs.type_inputs }
         ensures failed { result.failed ≡ self.entry.failed }
@@ -219,8 +218,8 @@ impl<'a, P: ModuleProvider> Context<'a, P> {
         names.into_type_formatter()
     }
 
-    /// Gives the memory back of what was found so far. Every answer is as before, and what is asked next takes as long
-    /// as at first: for programs that ask for long, or for the whole of a large program.
+    /// Frees the memory of all cached results. Answers stay the same, but the next ones take as long as the first ones
+    /// did. This is for programs that run for long, or that look up most of a large program.
     pub fn clear_caches(&mut self)
         ensures unchanged { self.new ≡ self.old }
     {
@@ -228,8 +227,8 @@ impl<'a, P: ModuleProvider> Context<'a, P> {
         self.names.clear_caches();
     }
 
-    /// How many starts of functions are known from public symbols, contributions and ends of sections.
-    /// Starts with no name and ends of sections count too.
+    /// The number of starts of global functions: public symbols, contributions and ends of sections. Starts without a
+    /// name and ends of sections count, too.
     pub fn function_count(&self) -> usize
         ensures { result ≡ length (global_functions_of self.now.inputs) }
     {

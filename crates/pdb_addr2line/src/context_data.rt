@@ -1,4 +1,4 @@
-//! `ContextPdbData`, which holds the records of a program and makes contexts and formatters over them.
+//! `ContextPdbData`: owns or borrows the records of a program, and makes contexts and formatters over them.
 
 ghost use Rattle.std.specs.Prelude.{◌≡◌, [], None, Some, IfOk};
 ghost use Rattle.pdb_records.specs.Provided.{provided};
@@ -19,16 +19,16 @@ use pdb_types::TypeFormatterFlags;
 use std::alloc::{AllocError, Global};
 use std::marker::Model;
 
-// The records, owned or lent.
+// The records, owned or borrowed.
 #[derive(Drop)]
 enum MaybeOwned<'p> {
     Owned(PDB),
     Lent(&'p PDB),
 }
 
-/// Holds the records of a program, and makes a [`Context`] over them.
+/// Owns or borrows the records of a program, and makes a [`Context`] over them.
 ///
-/// What a context answers may borrow from the records, so they have an owner of their own.
+/// Answers of a context may borrow from the records. So the records have an owner other than the context.
 pub struct ContextPdbData<'p> {
     alloc: Global,
     maybe_owned: MaybeOwned<'p>,
@@ -57,7 +57,7 @@ impl<'p> Model for ContextPdbData<'p> {
     ghost invariant = { λ d. records_refusal (records d.maybe_owned) ≡ None };
 }
 
-// The records that are lent, from now on only to be read: they end as they were.
+// Turns a mutable borrow of records into a shared one. The records end as they were.
 fn shared<'p>(pdb: &'p mut PDB) -> &'p PDB
     ensures answer { result.now ≡ pdb.old }
     ensures* unchanged { sem 𝓛 (Rests the_row pdb.entry (λ last. last ≡ pdb.old)) }
@@ -65,7 +65,7 @@ fn shared<'p>(pdb: &'p mut PDB) -> &'p PDB
     pdb
 }
 
-// Refuses records of which a stream failed that a context can't do without.
+// Refuses records in which a stream can't be read that a context needs.
 fn check_streams(pdb: &PDB) -> Result<()>
     ensures { Refuses result (records_refusal pdb.now) }
 {
@@ -84,12 +84,12 @@ fn check_streams(pdb: &PDB) -> Result<()>
 }
 
 impl<'p> ContextPdbData<'p> {
-    /// Holds these records.
+    /// Takes ownership of these records.
     ///
     /// # Errors
     ///
-    /// [`Error::PdbError`] of the first stream that failed, in the order global symbols, debug
-    /// information, types, ids, address map. A failed string table counts as absent.
+    /// [`Error::PdbError`] with the error of the first stream that can't be read, in the order global symbols, debug
+    /// information, types, ids, address map. A string table that can't be read counts as missing.
     pub fn try_from_pdb(alloc: Global, pdb: PDB) -> Result<Self>
         ensures answer { IfOk result (λ d. d ≡ pdb) }
         ensures refused { Refuses result (records_refusal pdb) }
@@ -101,8 +101,8 @@ impl<'p> ContextPdbData<'p> {
         })
     }
 
-    /// Holds a reference to these records, under the conditions of [`ContextPdbData::try_from_pdb`]. They
-    /// are only read, and stay as they are, also where they are refused.
+    /// Borrows these records, with the errors of [`ContextPdbData::try_from_pdb`]. They are only read, and stay as they
+    /// are, also if they are refused.
     pub fn try_from_pdb_ref(alloc: Global, pdb: &'p mut PDB) -> Result<Self>
         ensures answer { IfOk result (λ d. d ≡ pdb.old) }
         ensures refused { Refuses result (records_refusal pdb.old) }
@@ -110,7 +110,7 @@ impl<'p> ContextPdbData<'p> {
         ContextPdbData::try_from_shared_pdb(alloc, shared(pdb))
     }
 
-    /// Holds a shared reference to these records, under the conditions of [`ContextPdbData::try_from_pdb`].
+    /// Borrows these records, with the errors of [`ContextPdbData::try_from_pdb`].
     pub fn try_from_shared_pdb(alloc: Global, pdb: &'p PDB) -> Result<Self>
         ensures answer { IfOk result (λ d. d ≡ pdb.now) }
         ensures refused { Refuses result (records_refusal pdb.now) }
@@ -122,11 +122,11 @@ impl<'p> ContextPdbData<'p> {
         })
     }
 
-    /// A context over these records, whose names are printed with the default flags.
+    /// Makes a context over these records. It prints names with the default flags.
     ///
     /// # Errors
     ///
-    /// As [`ContextPdbData::make_context_with_formatter_flags`].
+    /// Those of [`ContextPdbData::make_context_with_formatter_flags`].
     pub fn make_context(&self) -> Result<Context<'_, Self>>
         ensures answer { Gives (λ c. c.inputs) result (context_of default_flags self.now) }
         ensures failed { IfOk result (λ c. (c.failed ≡ []) × (c.code_failed ≡ [])) }
@@ -134,13 +134,12 @@ impl<'p> ContextPdbData<'p> {
         self.make_context_with_formatter_flags(TypeFormatterFlags::default())
     }
 
-    /// A context over these records, whose names are printed with these flags.
+    /// Makes a context over these records. It prints names with these flags.
     ///
     /// # Errors
     ///
-    /// [`Error::PdbError`] for the fault of the list of modules, for a machine type that could not be
-    /// read, for sections that could not be read, and for the fault of the global symbols, in this
-    /// order; then the errors of
+    /// [`Error::PdbError`] if one of these has a fault or can't be read, in this order: the list of modules, the
+    /// machine type, the sections, the global symbols. Then the errors of
     /// [`compute_section_contributions`](crate::parts::compute_section_contributions).
     pub fn make_context_with_formatter_flags(
         &self,
@@ -153,7 +152,7 @@ impl<'p> ContextPdbData<'p> {
         self.context_with(formatter)
     }
 
-    // A context over these records, whose names this formatter prints.
+    // Makes a context over these records. It prints names with this formatter.
     fn context_with<'c>(&'c self, formatter: TypeFormatter<'c, Self>) -> Result<Context<'c, Self>>
         ensures answer { Gives (λ c. c.inputs) result (context_over self.now formatter.entry.type_inputs) }
         ensures failed { IfOk result (λ c. c.failed ≡ formatter.entry.failed) }
@@ -181,11 +180,11 @@ impl<'p> ContextPdbData<'p> {
         )
     }
 
-    /// A formatter of types over these records, with the default flags.
+    /// Makes a type formatter over these records, with the default flags.
     ///
     /// # Errors
     ///
-    /// As [`ContextPdbData::make_type_formatter_with_flags`].
+    /// Those of [`ContextPdbData::make_type_formatter_with_flags`].
     pub fn make_type_formatter(&self) -> Result<TypeFormatter<'_, Self>>
         ensures answer { Gives (λ f. f.type_inputs) result (formatter_of default_flags self.now) }
         ensures failed { IfOk result (λ f. f.failed ≡ []) }
@@ -193,12 +192,11 @@ impl<'p> ContextPdbData<'p> {
         self.make_type_formatter_with_flags(TypeFormatterFlags::default())
     }
 
-    /// A formatter of types over these records. A string table that failed counts as absent.
+    /// Makes a type formatter over these records. A string table that can't be read counts as missing.
     ///
     /// # Errors
     ///
-    /// [`Error::PdbError`] for the fault of the list of modules, and then for a machine type that could
-    /// not be read.
+    /// [`Error::PdbError`] if the list of modules has a fault, or else if the machine type can't be read.
     pub fn make_type_formatter_with_flags(
         &self,
         flags: TypeFormatterFlags,
@@ -254,7 +252,7 @@ fn check_machine(debug: &DebugInformation) -> Result<()>
     }
 }
 
-// The headers of the sections. Records without any have an empty list.
+// The section headers; empty if the records have none.
 fn sections_of(pdb: &PDB) -> Result<&[ImageSectionHeader]>
     ensures { Gives (λ s. s.now) result (sections_read pdb.now) }
 {
@@ -286,7 +284,7 @@ fn copies_of(alloc: Global, modules: &[Module]) -> Result<Vec<Module>, AllocErro
 impl<'p> ModuleProvider for ContextPdbData<'p> {
     ghost info = { λ records index _. info_at records index };
 
-    /// What the records hold of the module at this module index. The module itself isn't looked at.
+    /// The records of the module at this module index. The module's entry in the list isn't used.
     fn get_module_info(
         &self,
         module_index: usize,

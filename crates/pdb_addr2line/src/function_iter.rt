@@ -1,4 +1,4 @@
-//! The functions of a program, one by one or all at once, by where they start.
+//! Lists the functions of a program, sorted by start, with an iterator or all at once.
 
 ghost use Rattle.std.specs.Prelude.{◌≡◌, [], ◌∷◌, ◌++◌, length, map, IfOk, OnOk, OnErr, MatchResult};
 ghost use Rattle.pdb_errors.specs.declared.error.Error.TheVariants.{OutOfMemory};
@@ -13,11 +13,10 @@ use pdb_function_info::Function;
 use pdb_records::ModuleProvider;
 use std::vec::IntoIter;
 
-/// The functions of a program one by one, by where they start, as [`Context::functions`] gives them.
+/// An iterator over the functions of a program, sorted by start, from [`Context::functions`].
 ///
-/// It asks its context about one start address after the other, and passes over those that no function lies
-/// over. Answers `OutOfMemory` where memory runs out. That address isn't tried again: what comes next is of a later
-/// one.
+/// It looks up one start address after the other, and skips those at which there is no function. If memory runs out, it
+/// returns `OutOfMemory` for that address, and continues with the next one.
 #[derive(Drop)]
 pub struct FunctionIter<'c, 'a, P: ModuleProvider> {
     context: &'c mut Context<'a, P>,
@@ -25,7 +24,7 @@ pub struct FunctionIter<'c, 'a, P: ModuleProvider> {
 }
 
 impl<'c, 'a, P: ModuleProvider> FunctionIter<'c, 'a, P> {
-    /// How many start addresses weren't tried yet. So many functions may come at most.
+    /// The number of start addresses that weren't looked up yet. At most this many functions follow.
     pub fn remaining(&self) -> usize
         ensures { result ≡ length (untried self.now) }
     {
@@ -55,12 +54,12 @@ impl<'c, 'a, P: ModuleProvider> Iterator for FunctionIter<'c, 'a, P> {
 }
 
 impl<'a, P: ModuleProvider> Context<'a, P> {
-    /// The functions of the program, by where they start: what [`Context::find_function`] answers for each
-    /// address at which a global function or a procedure starts, where it answers a function.
+    /// The functions of the program, sorted by start: the results of [`Context::find_function`] at each address where a
+    /// global function or a procedure starts.
     ///
     /// # Errors
     ///
-    /// Answers `OutOfMemory` where memory runs out.
+    /// `OutOfMemory` if memory runs out.
     pub fn functions(&mut self) -> Result<FunctionIter<'_, 'a, P>>
         ensures answer { MatchResult result
             (λ it. untried it ≡ start_addresses P.info self.old.inputs)
@@ -75,11 +74,11 @@ impl<'a, P: ModuleProvider> Context<'a, P> {
         })
     }
 
-    // The functions of the program, all at once.
+    // All functions of the program.
     //
     // # Errors
     //
-    // Answers `OutOfMemory` where memory runs out.
+    // `OutOfMemory` if memory runs out.
     pub(crate) fn all_functions(&mut self) -> Result<Vec<Function>>
         ensures answer { MatchResult result
             (λ v. map function_view v.items ≡ functions_of P.info self.old.inputs)
@@ -98,7 +97,7 @@ impl<'a, P: ModuleProvider> Context<'a, P> {
         Ok(functions)
     }
 
-    // Adds the function over an address, where there is one.
+    // Adds the function at an address, if there is one.
     fn add_function(&mut self, functions: &mut Vec<Function>, address: u32) -> Result<()>
         ensures added { MatchResult result
             (λ _. map function_view functions.new.items ≡ map function_view functions.old.items

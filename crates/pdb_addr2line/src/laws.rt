@@ -1,6 +1,6 @@
-//! What follows from the definitions that the contracts cite: laws in words of their own.
+//! Laws that follow from the definitions in the contracts.
 //!
-//! Each function here does nothing. Its contract is a law, for all records, and the check proves it.
+//! Each function here does nothing. Its contract states a law, which the checker proves for all records.
 
 ghost use Rattle.std.specs.Prelude.{◌≡◌, ℕ, ◌+◌, List, length, map, reverse, slice_get, Some, Ok};
 ghost use Rattle.pdb_records.specs.Addresses.{internal_offset};
@@ -63,7 +63,7 @@ pub use pdb_types::size_laws::{
     chains_that_repeat_have_no_size,
 };
 
-/// Where frames are answered, there is at least one, and the last is that of the function over the address.
+/// If there are frames at an address, the last one is that of the containing function.
 pub fn frames_end_in_the_function<P: ModuleProvider>()
     ensures { (s : ContextInputs P) (address : ℕ) (found : FunctionMatch) (frames_info : FramesInfo)
         → found_at P.info s address ≡ Some found
@@ -71,8 +71,8 @@ pub fn frames_end_in_the_function<P: ModuleProvider>()
         → EndIn frames_info.frames (function_name P.info s.type_inputs (global_functions_of s) found) }
 {}
 
-/// Where frames are answered, there is one for each depth at which the rows of inline sites of the function cover
-/// the address, and one more, that of the function itself. So no inlined body is left out.
+/// If there are frames at an address, there is one for each depth at which rows of the function's inline sites cover
+/// it, and one for the function itself. So no inlined body is missing.
 pub fn frames_have_all_levels<P: ModuleProvider>()
     ensures { (s : ContextInputs P) (address : ℕ) (section_offset : PdbInternalSectionOffset) (found : FunctionMatch)
         (frames_info : FramesInfo)
@@ -82,8 +82,8 @@ pub fn frames_have_all_levels<P: ModuleProvider>()
         → length frames_info.frames ≡ levels_over (records_of P.info s found) found section_offset.offset + 1 }
 {}
 
-/// Where both a function and its frames are answered for an address, they start and end alike, and the last frame
-/// has the name of the function.
+/// If both lookups at an address find a function, both give the same start and end, and the last frame has the name of
+/// the function.
 pub fn functions_and_frames_agree<P: ModuleProvider>()
     ensures { (s : ContextInputs P) (address : ℕ) (function : FunctionInfo) (frames_info : FramesInfo)
         → function_at P.info s address ≡ Some function
@@ -91,9 +91,9 @@ pub fn functions_and_frames_agree<P: ModuleProvider>()
         → Agree function frames_info }
 {}
 
-/// Where for each depth one inline site of a procedure alone has ranges over an address, the site of each
-/// frame lies directly inside that of the next outer one, and is as deep as the frame's level. Frames are
-/// counted from outside here, those of inlined bodies from 1 on.
+/// If at most one inline site of each depth has ranges over an address, the site of each frame is directly inside that
+/// of the next outer frame. Its depth is the frame's level, counted from the outermost frame, where those of inlined
+/// bodies begin at 1.
 pub fn frames_lie_directly_inside<P: ModuleProvider>()
     ensures { (s : ContextInputs P) (address : ℕ) (section_offset : PdbInternalSectionOffset) (module_index : ℕ)
         (p : ModuleProcedure)
@@ -109,8 +109,8 @@ pub fn frames_lie_directly_inside<P: ModuleProvider>()
         (id_name P.info s.type_inputs module_index) info p section_offset.offset level frame inner }
 {}
 
-/// Which parts of the records failed before changes no answer but an error: in any list of calls, an answer is
-/// successful exactly where that of a context of which no part has failed is, and then it is the same.
+/// Parts that failed before change no answer except errors. In any list of calls, an answer is successful exactly if a
+/// context without failed parts gives one, and then both are equal.
 pub fn successful_answers_are_those_of_a_fresh_context<P: ModuleProvider>()
     ensures { (c : ContextState P) (calls : List Call) → map successful (answers_to P.info c calls)
         ≡ map (λ call. successful (answer_to P.info (fresh c.inputs) call)) calls }

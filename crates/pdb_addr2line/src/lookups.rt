@@ -1,4 +1,4 @@
-//! Look-ups of an address: the procedure of its module over it, or else the global function, and its frames.
+//! Looks up an address: the procedure that contains it, or else the global function, and its frames.
 
 ghost use Rattle.std.specs.Prelude.{◌≡◌, ◌≢◌, Ok, None, find, option_map, IfOk, OnOk, IfErr, MatchResult};
 ghost use Rattle.std.specs.Option.{option_copied};
@@ -34,15 +34,15 @@ use pdb_records::{ModuleInfo, ModuleProvider, PdbInternalSectionOffset, Rva};
 use pdb_tables::Probes;
 
 impl<'a, P: ModuleProvider> Context<'a, P> {
-    /// The function whose code an address lies in, with its addresses and its name but no lines.
+    /// The function that contains an address, with its addresses and its name but no lines.
     ///
-    /// `None` where no section or no contribution of a module holds the address, where no function is
-    /// known there, or where the next function of the section has no address. A procedure whose signature
-    /// can't be printed has no name. A part of the records that printing meets broken is remembered.
+    /// `None` if no section or no module's contribution contains the address, if no function is known there, or if the
+    /// next function of the section has no address. A procedure whose signature can't be printed has no name. If
+    /// printing finds a broken part of the records, it is remembered.
     ///
     /// # Errors
     ///
-    /// Answers `OutOfMemory` where memory runs out.
+    /// `OutOfMemory` if memory runs out.
     pub fn find_function(&mut self, address: u32) -> Result<Option<Function>>
         ensures answer { MatchResult result
             (λ found. option_map function_view found ≡ function_at P.info self.old.inputs address)
@@ -52,7 +52,7 @@ impl<'a, P: ModuleProvider> Context<'a, P> {
         ensures code_failed { self.new.code_failed ≡ self.old.code_failed }
         ensures gains { OnlyGainsBroken P.info self.old self.new }
         ensures broken { GainsBroken P.info self.old.inputs.type_inputs self.old.failed self.new.failed }
-        // Outside every section and every contribution no memory is needed.
+        // For an address outside every section or contribution no memory is allocated.
         ensures outside { contribution_at self.old.inputs address ≡ None
             → (result ≡ Ok None) × (self.new ≡ self.old) }
     {
@@ -62,20 +62,18 @@ impl<'a, P: ModuleProvider> Context<'a, P> {
         }
     }
 
-    /// The functions in whose code an address lies, from inside to outside: the inlined bodies over it, and
-    /// last the function itself, each with its source line where that is known.
+    /// The frames at an address, the innermost first: the inlined bodies there, and last the containing function, each
+    /// with its source line if that is known.
     ///
-    /// `None` where no section or no contribution of a module holds the address, or where no function is
-    /// known there. Without records of its module, or where the module's symbols could not be read to their
-    /// end, the function is the only frame. A function or an inlined body whose name can't be printed has
-    /// none. A part of the records that is met broken is remembered.
+    /// `None` if no section or no module's contribution contains the address, or if no function is known there. If its
+    /// module has no records, or the module's symbols end early, the function is the only frame. A function or an
+    /// inlined body whose name can't be printed has none. If a part of the records is found broken, it is remembered.
     ///
     /// # Errors
     ///
-    /// [`Error::PdbError`] where the module's line program could not be read, then for the fault of its
-    /// inlinees, and then for the fault of the function's line rows. From then on it is
-    /// [`Error::ExtendedModuleInfoUnsuccessful`] for the first two, and [`Error::ProcedureLinesUnsuccessful`]
-    /// for the last.
+    /// [`Error::PdbError`] if one of these can't be read or ends early, in this order: the module's line program, its
+    /// inlinees, the function's line rows. Later calls return [`Error::ExtendedModuleInfoUnsuccessful`] for the first
+    /// two, and [`Error::ProcedureLinesUnsuccessful`] for the last.
     pub fn find_frames(&mut self, address: u32) -> Result<Option<FunctionFrames<'a>>>
         ensures answer { Gives (λ f. f) result (frames_answered P.info self.old address) }
         ensures inputs { self.new.inputs ≡ self.old.inputs }
@@ -85,7 +83,7 @@ impl<'a, P: ModuleProvider> Context<'a, P> {
             (self.new.code_failed ≡ code_failed_after P.info self.old address) }
         ensures unchanged { IfErr result (λ e. e ≡ OutOfMemory → self.new.code_failed ≡ self.old.code_failed) }
         ensures broken { GainsBroken P.info self.old.inputs.type_inputs self.old.failed self.new.failed }
-        // Outside every section and every contribution no memory is needed.
+        // For an address outside every section or contribution no memory is allocated.
         ensures outside { contribution_at self.old.inputs address ≡ None
             → (result ≡ Ok None) × (self.new ≡ self.old) }
     {
@@ -98,8 +96,8 @@ impl<'a, P: ModuleProvider> Context<'a, P> {
         }
     }
 
-    // The frames info of a function that was found, at an offset: a part of the records of code that
-    // refuses them is remembered.
+    // The frames of a function that was found, at an offset. If a part of the records of code is broken, it is
+    // remembered.
     fn frames_answer(
         &mut self,
         found: FunctionMatch<'a>,
@@ -129,8 +127,7 @@ impl<'a, P: ModuleProvider> Context<'a, P> {
         }
     }
 
-    // The part that is to blame where the frames of a function that was found are refused, by the records of its
-    // module.
+    // The part of the records that is broken, if the frames of a function can't be found.
     fn part_blamed(&mut self, found: FunctionMatch<'a>) -> Result<Option<CodePart>>
         ensures answer { MatchResult result
             (λ part. part ≡ blamed_for P.info self.old.inputs (function_match found.entry))
@@ -142,8 +139,8 @@ impl<'a, P: ModuleProvider> Context<'a, P> {
         Ok(blamed)
     }
 
-    // The error that is answered where a part is to blame, which is remembered. Answers `OutOfMemory` where memory
-    // runs out, which no part is to blame for.
+    // The error to return for a broken part, which is remembered. If memory ran out, no part is broken, and
+    // `OutOfMemory` is returned.
     fn error_to_answer(&mut self, blamed: Option<CodePart>, error: Error) -> Result<Error>
         ensures no_want_of_memory { IfOk result (λ e. error ≢ OutOfMemory) }
         ensures answer { IfOk result (λ e. e ≡ answered_error self.old.code_failed blamed error) }
@@ -158,7 +155,7 @@ impl<'a, P: ModuleProvider> Context<'a, P> {
         }
     }
 
-    // The frames info of a function that was found, at an offset, by the records of its module.
+    // The frames of a function that was found, at an offset, by the records of its module.
     fn frames_info(
         &mut self,
         found: FunctionMatch<'a>,
@@ -191,7 +188,7 @@ impl<'a, P: ModuleProvider> Context<'a, P> {
         )
     }
 
-    // The function info of a function that lies over a section offset.
+    // The function info of a function that was found.
     fn function_info(&mut self, found: FunctionMatch<'a>) -> Result<Option<Function>>
         requires named { GoesBySymbol (P.info self.old.inputs.provider) self.old.inputs.type_inputs.modules
             (function_match found) }
@@ -233,7 +230,7 @@ impl<'a, P: ModuleProvider> Context<'a, P> {
         sections.section_offset_of(Rva(address), &mut Probes::new())
     }
 
-    // What lies over an address.
+    // The procedure or global function at an address.
     pub(crate) fn found(&mut self, address: u32) -> Result<Option<FunctionMatch<'a>>>
         ensures answer { MatchResult result
             (λ found. option_map function_match found ≡ found_at P.info self.old.inputs address)
@@ -247,7 +244,7 @@ impl<'a, P: ModuleProvider> Context<'a, P> {
         }
     }
 
-    // What lies over a section offset.
+    // The procedure or global function at a section offset.
     fn found_over(
         &mut self,
         section_offset: PdbInternalSectionOffset,
@@ -268,7 +265,7 @@ impl<'a, P: ModuleProvider> Context<'a, P> {
         }
     }
 
-    // What lies over a section offset in a contribution.
+    // The procedure or global function at a section offset, in a contribution.
     fn function_in(
         &mut self,
         section_offset: PdbInternalSectionOffset,
@@ -294,7 +291,7 @@ impl<'a, P: ModuleProvider> Context<'a, P> {
         Ok(global_function_in(contribution, function, next_place))
     }
 
-    // The procedure of a module over a section offset.
+    // The procedure of a module that contains a section offset.
     fn procedure_in(
         &mut self,
         section_offset: PdbInternalSectionOffset,
@@ -312,7 +309,7 @@ impl<'a, P: ModuleProvider> Context<'a, P> {
         Ok(infos.procedure_over(modules, module_index, section_offset, &mut Probes::new())?)
     }
 
-    // The records of the module at a module index, where there are any and its symbols have no fault.
+    // The records of the module at a module index, if it has any and its symbols don't end early.
     fn readable_info(&mut self, module_index: usize) -> Result<Option<&'a ModuleInfo>>
         ensures answer { MatchResult result
             (λ info. option_copied info

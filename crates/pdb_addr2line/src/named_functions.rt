@@ -1,4 +1,4 @@
-//! Look-ups of an address that have functions go by the names of their symbols where they have no other.
+//! Lookups of an address in which functions without another name get their symbols' names.
 
 ghost use Rattle.std.specs.Prelude.{◌≡◌, Ok, None, option_map, string_bytes, OnOk, IfErr, MatchResult};
 ghost use Rattle.std.specs.Option.{option_or};
@@ -19,12 +19,12 @@ use pdb_function_info::{Function, symbol_name};
 use pdb_records::ModuleProvider;
 
 impl<'a, P: ModuleProvider> Context<'a, P> {
-    /// What [`find_function`](Context::find_function) answers, where a procedure whose signature can't be printed goes
-    /// by its symbol's name, as the records have it.
+    /// Like [`find_function`](Context::find_function), but a procedure whose signature can't be printed gets its
+    /// symbol's name, as the records have it.
     ///
     /// # Errors
     ///
-    /// Answers `OutOfMemory` where memory runs out.
+    /// `OutOfMemory` if memory runs out.
     pub fn find_named_function(&mut self, address: u32) -> Result<Option<Function>>
         ensures answer { MatchResult result
             (λ found. option_map function_view found ≡ named_function_at P.info self.old.inputs address)
@@ -44,8 +44,8 @@ impl<'a, P: ModuleProvider> Context<'a, P> {
         }
     }
 
-    /// What [`find_frames`](Context::find_frames) answers, where a procedure whose signature can't be printed goes by
-    /// its symbol's name, as the records have it.
+    /// Like [`find_frames`](Context::find_frames), but a procedure whose signature can't be printed gets its symbol's
+    /// name, as the records have it.
     ///
     /// # Errors
     ///
@@ -70,7 +70,7 @@ impl<'a, P: ModuleProvider> Context<'a, P> {
         }
     }
 
-    // These frames, whose function goes by the name of the symbol over an address where it has none.
+    // These frames. If the containing function has no name, it gets that of the symbol at an address.
     fn named_frames(
         &mut self,
         address: u32,
@@ -101,7 +101,7 @@ impl<'a, P: ModuleProvider> Context<'a, P> {
         })
     }
 
-    // A frame, which goes by the name of the symbol over an address where it has none.
+    // A frame. If it has no name, it gets that of the symbol at an address.
     fn named_frame(&mut self, address: u32, frame: Frame<'a>) -> Result<Frame<'a>>
         ensures answer { MatchResult result
             (λ named. named ≡ named_frame (symbol_name_at P.info self.old.inputs address) frame.entry)
@@ -120,7 +120,7 @@ impl<'a, P: ModuleProvider> Context<'a, P> {
         })
     }
 
-    // A name, or where there is none that of the symbol of the function over an address.
+    // A name, or if there is none, that of the symbol at an address.
     fn name_or_symbol(&mut self, address: u32, name: Option<String>) -> Result<Option<String>>
         ensures answer { MatchResult result
             (λ found. option_map string_bytes found
@@ -134,7 +134,7 @@ impl<'a, P: ModuleProvider> Context<'a, P> {
         }
     }
 
-    // The name of the symbol of the function over an address.
+    // The name of the symbol of the function at an address.
     fn symbol_name(&mut self, address: u32) -> Result<Option<String>>
         ensures answer { MatchResult result
             (λ found. option_map string_bytes found ≡ symbol_name_at P.info self.old.inputs address)

@@ -1,4 +1,4 @@
-//! The first function that starts at an address or after it, by a search in the start addresses.
+//! Finds the first function that starts at or after an address.
 
 ghost use Rattle.std.specs.Prelude.{◌≡◌, find, nat_le, slice_get, MatchResult};
 ghost use Rattle.pdb_errors.specs.declared.error.Error.TheVariants.{OutOfMemory};
@@ -16,7 +16,7 @@ fn address_at(addresses: &[u32], position: usize) -> Option<u32>
     addresses.get(position).copied()
 }
 
-// The first of addresses, which ascend, that isn't below this one.
+// The first of ascending addresses that is at or above `address`.
 fn first_from(addresses: &[u32], address: u32) -> Option<u32>
     requires { Ascend addresses.now }
     ensures { result ≡ find (λ start. nat_le address start) addresses.now }
@@ -26,12 +26,12 @@ fn first_from(addresses: &[u32], address: u32) -> Option<u32>
 }
 
 impl<'a, P: ModuleProvider> Context<'a, P> {
-    /// The first of the [start addresses](Context::start_addresses) that isn't below this one, for callers that go over
-    /// functions one at a time. `None` where no function starts there or after it.
+    /// The first of the [start addresses](Context::start_addresses) that is at or above this one, for callers that walk
+    /// over functions one at a time. `None` if no function starts there.
     ///
     /// # Errors
     ///
-    /// Answers `OutOfMemory` where memory runs out, which the first question for start addresses needs.
+    /// `OutOfMemory` if memory runs out. Only the first call for start addresses allocates.
     #[tactic(auto, using(crate::proofs::StartLemmas::starts_ascend))]
     pub fn next_start_address(&mut self, address: u32) -> Result<Option<u32>>
         ensures answer { MatchResult result

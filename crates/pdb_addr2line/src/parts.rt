@@ -1,4 +1,4 @@
-//! What a [`Context`](crate::Context) is made of, for callers who need one of its tables alone.
+//! The tables inside a [`Context`](crate::Context), for callers that need only one of them.
 
 pub use pdb_frames::compute_procedure_inline_ranges;
 pub use pdb_functions::{

@@ -1,4 +1,4 @@
-//! Answers a list of calls, one after the other.
+//! Answers a list of calls in turn.
 
 ghost use Rattle.std.specs.Prelude.{◌≡◌, ◌∷◌, [], IfOk, OnOk, IfErr, OnErr};
 ghost use Rattle.pdb_types.specs.FailedParts.{with_met};
@@ -18,18 +18,18 @@ use pdb_errors::Result;
 use pdb_records::{IdIndex, ModuleProvider, TypeIndex};
 
 impl<'a, P: ModuleProvider> Context<'a, P> {
-    /// Answers calls, one after the other, and appends an answer for each.
+    /// Answers calls in turn, and appends an answer for each.
     ///
-    /// An answer is what a plain scan of the records shows, whatever was asked before, save that a part of the
-    /// records that failed before answers its `Unsuccessful` error.
+    /// Each answer equals that of a plain scan of the records, whatever was asked before. The only exception is a part
+    /// of the records that failed before: it gives its `Unsuccessful` error.
     ///
     /// # Errors
     ///
-    /// Answers `OutOfMemory` where memory runs out. The list then ends with the answers of the calls before the one for
-    /// which there was no memory, and that one can be asked again.
+    /// `OutOfMemory` if memory runs out. The answers to the calls before that one were then appended, and it can be
+    /// repeated.
     pub fn run_calls(&mut self, calls: &[Call<'_>], answers: &mut Vec<Answer<'a>>) -> Result<()>
-        // Every call in any list answers as a plain scan of the records, save that a part that failed before
-        // answers its Unsuccessful error.
+        // Each answer equals that of a plain scan of the records, except that a part that failed before gives its
+        // Unsuccessful error.
         ensures answers { OnOk result
             (Appends answers.old.items answers.new.items (answers_to P.info self.old calls.now)) }
         ensures state { OnOk result (self.new ≡ after_calls P.info self.old calls.now) }
@@ -80,7 +80,7 @@ impl<'a, P: ModuleProvider> Context<'a, P> {
         }
     }
 
-    // The function over an address.
+    // Answers with the function at an address.
     fn answer_function(&mut self, address: u32) -> Result<Answer<'a>>
         ensures answer { IfOk result (λ a. answer_view a
             ≡ FunctionView (function_at P.info self.old.inputs address)) }
@@ -92,7 +92,7 @@ impl<'a, P: ModuleProvider> Context<'a, P> {
         Ok(Answer::Function(function))
     }
 
-    // The frames over an address, or the error in their place.
+    // Answers with the frames at an address, or with their error.
     fn answer_frames(&mut self, address: u32) -> Result<Answer<'a>>
         ensures answer { IfOk result (λ a. answer_view a ≡ FramesView (frames_answered P.info self.old address)) }
         ensures state { OnOk result (self.new ≡ after_frames P.info self.old address) }
@@ -105,7 +105,7 @@ impl<'a, P: ModuleProvider> Context<'a, P> {
         }
     }
 
-    // All functions.
+    // Answers with all functions.
     fn answer_functions(&mut self) -> Result<Answer<'a>>
         ensures answer { IfOk result (λ a. answer_view a ≡ FunctionsView (functions_of P.info self.old.inputs)) }
         ensures state { OnOk result (self.new
@@ -117,7 +117,7 @@ impl<'a, P: ModuleProvider> Context<'a, P> {
         Ok(Answer::Functions(functions))
     }
 
-    // The size of a type.
+    // Answers with the size of a type.
     fn answer_size(&mut self, module_index: usize, index: TypeIndex) -> Result<Answer<'a>>
         ensures answer { IfOk result (λ a. answer_view a
             ≡ SizeView (size_of P.info self.old.inputs.type_inputs module_index index.0).size) }
@@ -130,7 +130,7 @@ impl<'a, P: ModuleProvider> Context<'a, P> {
         Ok(Answer::Size(size))
     }
 
-    // The signature of a function, or the error in its place.
+    // Answers with the signature of a function, or with its error.
     fn answer_signature(
         &mut self,
         name: &str,
@@ -152,7 +152,7 @@ impl<'a, P: ModuleProvider> Context<'a, P> {
         }
     }
 
-    // The text of an id, or the error in its place.
+    // Answers with the text of an id, or with its error.
     fn answer_id(&mut self, module_index: usize, index: IdIndex) -> Result<Answer<'a>>
         ensures answer { let type_inputs = self.old.inputs.type_inputs in
             let run = id_run P.info type_inputs module_index index.0 self.old.failed in

@@ -14,7 +14,7 @@ use pdb_records::{AddressMap, Module, ModuleProvider, PdbInternalSectionOffset};
 use std::alloc::{AllocError, Global};
 use std::collections::BTreeSet;
 
-// Adds the address of a section offset, where it has one.
+// Adds the address of a section offset, if it has one.
 fn add_start(
     starts: &mut BTreeSet<u32>,
     address_map: &AddressMap,
@@ -28,7 +28,7 @@ fn add_start(
     Ok(())
 }
 
-// Adds where global functions start.
+// Adds the starts of global functions.
 fn add_global_starts(
     starts: &mut BTreeSet<u32>,
     address_map: &AddressMap,
@@ -43,7 +43,7 @@ fn add_global_starts(
     Ok(())
 }
 
-// Adds where procedures start.
+// Adds the starts of procedures.
 fn add_procedure_starts(
     starts: &mut BTreeSet<u32>,
     address_map: &AddressMap,
@@ -58,7 +58,7 @@ fn add_procedure_starts(
     Ok(())
 }
 
-// Adds where the procedures of the module at a module index start.
+// Adds the starts of the procedures of the module at a module index.
 fn add_starts_of_module<P: ModuleProvider>(
     starts: &mut BTreeSet<u32>,
     address_map: &AddressMap,
@@ -76,7 +76,7 @@ fn add_starts_of_module<P: ModuleProvider>(
     }
 }
 
-// Adds where the procedures of all modules start.
+// Adds the starts of the procedures of all modules.
 #[tactic(auto, using(crate::proofs::StartLemmas::with_starts_of_next))]
 fn add_module_starts<P: ModuleProvider>(
     starts: &mut BTreeSet<u32>,
@@ -95,12 +95,12 @@ fn add_module_starts<P: ModuleProvider>(
 }
 
 impl<'a, P: ModuleProvider> Context<'a, P> {
-    /// Where functions start, ascending and each once: the addresses of the global functions, and of the
+    /// The addresses at which functions start, ascending and each once: those of global functions, and of the
     /// procedures of all modules.
     ///
     /// # Errors
     ///
-    /// Answers `OutOfMemory` where memory runs out.
+    /// `OutOfMemory` if memory runs out.
     pub fn start_addresses(&mut self) -> Result<Vec<u32>>
         ensures answer { MatchResult result
             (λ v. v.items ≡ start_addresses P.info self.old.inputs)
@@ -116,7 +116,7 @@ impl<'a, P: ModuleProvider> Context<'a, P> {
         Ok(starts)
     }
 
-    // The same, by the records.
+    // Collects the start addresses from the records.
     #[tactic(auto, using(crate::proofs::StartLemmas::with_starts_append))]
     pub(crate) fn find_start_addresses(&mut self) -> Result<Vec<u32>>
         ensures answer { MatchResult result

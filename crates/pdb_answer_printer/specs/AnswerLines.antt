@@ -23,18 +23,19 @@ hexadecimal number = codes "0x" ++ digits 16 false number
 abbrev pub unknown : List ℕ
 unknown = 63 ∷ 63 ∷ []
 
--- the address before its answer, where the options ask for that: a line, or on the line of the answer
+-- the address before its answer, if the options ask for it: on a line of its own, or on the line of the answer
 abbrev pub address_line : PrinterOptions → Target → List ℕ
 address_line options (AtAddress given) =
     if options.address_shown then hexadecimal given ++ (if options.pretty then codes ": " else codes "\n") else []
 address_line options target = []
 
--- the name of a function after this text: a line, or on the line of the location; nothing where no names are wanted
+-- the name of a function after this text: on a line of its own, or on the line of the location; empty if no names are
+-- wanted
 abbrev pub name_line_by : NameStyle → PrinterOptions → List ℕ → List ℕ → List ℕ
 name_line_by names.None options start name = []
 name_line_by style options start name = start ++ (name ++ (if options.pretty then codes " at " else codes "\n"))
 
--- the same, as the options want names
+-- the name of a function after this text, in the form that the options choose
 abbrev pub name_line : PrinterOptions → List ℕ → List ℕ → List ℕ
 name_line options start name = name_line_by options.names options start name
 
@@ -50,39 +51,39 @@ abbrev pub url_start : Detail → List ℕ
 url_start Verbose = codes "\n  SourceUrl: "
 url_start Brief = codes " "
 
--- file, line and column as the options want them, and after them the URL of the file, if there is one
+-- file, line and column in the form that the options choose, and then the URL of the file, if there is one
 abbrev pub location : PrinterOptions → List ℕ → ℕ → List ℕ → List ℕ
 location options file line url =
     place_by options.detail options.style file line ++ (url_after (url_start options.detail) url ++ codes "\n")
 
--- a frame: its function after this text, and its location with this URL
+-- the lines of a frame: its function after this text, and its location with this URL
 abbrev pub frame_lines : PrinterOptions → List ℕ → FrameInfo → List ℕ → List ℕ
 frame_lines options start frame url =
     name_line options start (function_of unknown frame)
     ++ location options (file_of options unknown frame) (line_of frame) url
 
--- what stands before the name of each frame but the innermost: that another was inlined into it, where a frame has one
--- line
+-- the text before the name of each frame but the innermost: `(inlined by)` if each frame is on one line
 abbrev pub outer_start : PrinterOptions → List ℕ
 outer_start options = if options.pretty then codes " (inlined by) " else []
 
--- frames from inside to outside, the first after this text: each with the URL and the lines of its source file
+-- the lines of frames from inside to outside, the first after this text; each frame has the URL of its source file in its
+-- location, and lines of that file after it
 abbrev pub frames_lines : PrinterOptions → List ℕ → List FrameInfo → List FrameSource → List ℕ
 frames_lines options start [] sources = []
 frames_lines options start (frame ∷ frames) sources =
     frame_lines options start frame (first_source sources).url ++ ((first_source sources).lines
     ++ frames_lines options (outer_start options) frames (later_sources sources))
 
--- a frame of which nothing is known
+-- the lines of an unknown frame
 abbrev pub unknown_frame : PrinterOptions → List ℕ
 unknown_frame options = name_line options [] unknown ++ location options unknown 0 []
 
--- of data of which nothing is known: its name, its start and its size, and its place
+-- the lines of unknown data: its name, its start and its size, and its place
 abbrev pub unknown_data : List ℕ
 unknown_data = unknown ++ (codes "\n0 0\n" ++ (unknown ++ (codes ":" ++ (63 ∷ codes "\n"))))
 
--- what is printed where nothing is known: of code, and of what is no request, a frame; of data three lines; and of a
--- frame's variables one
+-- the lines if nothing is known: a frame for code and for a text that is no request, three lines for data, and one line
+-- for a frame's variables
 abbrev pub unknown_lines : PrinterOptions → Sort → Target → List ℕ
 unknown_lines options sort (AtNone lack) = unknown_frame options
 unknown_lines options Code target = unknown_frame options

@@ -1,4 +1,4 @@
--- Requests, as contracts see them.
+-- The models of requests.
 use Rattle.std.specs.Prelude.{ℕ, List, Bool, true, false, Option, Some, None, codes}
 use Rattle.pdb_answer_printer.specs.declared.input_line.Lack.{Lack}
 use Rattle.pdb_answer_printer.specs.declared.input_line.Lack.TheVariants as lack
@@ -7,35 +7,35 @@ use Rattle.pdb_answer_printer.specs.declared.input_line.InputTarget.TheVariants.
 use Rattle.pdb_answer_printer.specs.declared.input_line.InputLine.{InputLine}
 use Rattle.pdb_answer_printer.specs.declared.input_line.Sort.{Sort}
 
--- where something is asked for: at an address, of a symbol by its name, or nowhere, since the text lacks this
+-- the target of a request: an address, a symbol by its name, or nothing, with what the text lacks
 pub data Target : Type 0 where
   AtAddress : ℕ → Target
   OfSymbol : List ℕ → Target
   AtNone : Lack → Target
 
--- a request: what is asked for, the name of the file, and where
+-- a request: what it asks for, the name of the file, and the target
 pub record Question : Type 0 where
   pub sort : Sort
   pub file : List ℕ
   pub target : Target
 
--- the place of a request
+-- the target of a request
 abbrev pub target_of : InputTarget → Target
 target_of (Address given) = AtAddress given
 target_of (Symbol name) = OfSymbol name.now
 target_of (Nowhere missing) = AtNone missing
 
--- a request
+-- the model of a request
 abbrev pub question_of : InputLine → Question
 question_of request = record { sort = request.sort; file = request.file.now; target = target_of request.place }
 
--- nothing is asked for
+-- whether the target is nothing
 abbrev pub asks_nothing : Target → Bool
 asks_nothing (AtNone missing) = true
 asks_nothing target = false
 
--- what is said of a text that asks for nothing. An empty one asks whether the program still answers: nothing is said of
--- it
+-- the message about a text that asks for nothing. An empty text only checks that the program still answers, so it gets
+-- no message
 abbrev pub words_of : Lack → Option (List ℕ)
 words_of lack.Text = None
 words_of lack.File = Some (codes "no file is named")

@@ -1,4 +1,4 @@
-//! The lines of an answer in the styles of LLVM and GNU.
+//! Writes the lines of an answer in the styles of LLVM and GNU.
 
 ghost use Rattle.std.specs.Prelude.{◌≡◌, ◌++◌, [], string_bytes, OnOk};
 ghost use Rattle.pdb_answer_printer.specs.AnswerLines.{address_line, answer_end, frame_lines, frames_lines};
@@ -14,10 +14,10 @@ use crate::source_texts::{SourceText, first_source, later_sources};
 use pdb_frames::Frame;
 use std::alloc::AllocError;
 
-// What is printed of a name that isn't known.
+// What is printed for an unknown name.
 const UNKNOWN: &str = "??";
 
-/// Appends the address before its answer, where the options ask for that.
+/// Appends the address before its answer, if the options ask for it.
 pub(crate) fn write_address(
     out: &mut String,
     options: &PrinterOptions,
@@ -35,7 +35,7 @@ pub(crate) fn write_address(
     }
 }
 
-/// Appends what follows an answer.
+/// Appends the text after an answer: an empty line in LLVM's style.
 pub(crate) fn end_answer(out: &mut String, options: &PrinterOptions) -> Result<(), AllocError>
     ensures { OnOk result (string_bytes out.new ≡ string_bytes out.old ++ answer_end options.now.style) }
 {
@@ -45,7 +45,7 @@ pub(crate) fn end_answer(out: &mut String, options: &PrinterOptions) -> Result<(
     }
 }
 
-/// Appends what is printed where nothing is known.
+/// Appends the lines that say that nothing is known.
 pub(crate) fn write_unknown_lines(
     out: &mut String,
     options: &PrinterOptions,
@@ -68,7 +68,7 @@ fn write_unknown_frame(out: &mut String, options: &PrinterOptions) -> Result<(),
     write_location(out, options, UNKNOWN, 0, "")
 }
 
-/// Appends frames from inside to outside, each with the URL and the lines of its source file.
+/// Appends frames, the innermost first, each with the URL and lines of its source file.
 pub(crate) fn write_frames(
     out: &mut String,
     options: &PrinterOptions,
@@ -90,14 +90,14 @@ pub(crate) fn write_frames(
     Ok(())
 }
 
-// What stands before the name of each frame but the innermost.
+// The text before the name of each frame except the innermost.
 fn outer_start(options: &PrinterOptions) -> &'static str
     ensures { result.now ≡ outer_start options.now }
 {
     if options.pretty { " (inlined by) " } else { "" }
 }
 
-// Appends the lines of a frame after `start`, with the URL of its source file.
+// Appends the lines of a frame, after the text `start`. `url` is that of its source file, and may be empty.
 fn write_frame(
     out: &mut String,
     options: &PrinterOptions,

@@ -1,4 +1,4 @@
-//! The text of an answer.
+//! Writes the text of an answer.
 
 ghost use Rattle.std.specs.Prelude.{◌≡◌, ◌++◌, string_bytes, OnOk};
 ghost use Rattle.pdb_answer_printer.specs.AnswerText.{answer_of_lines, answer_text, found_lines, unknown_text};
@@ -13,8 +13,8 @@ use crate::source_texts::SourceText;
 use pdb_frames::Frame;
 use std::alloc::AllocError;
 
-/// Appends the answer for an address of code: its frames, or that there are none. `sources` has what is printed of the
-/// source file of each frame, in the order of the frames. Frames for which it has nothing are printed without.
+/// Appends the answer for a code address: its frames, or that there are none. `sources` has the URL and lines of each
+/// frame's source file, in the order of the frames; frames after its end are printed without.
 pub fn write_answer(
     out: &mut String,
     options: &PrinterOptions,
@@ -50,8 +50,8 @@ fn write_found(
     end_answer(out, options)
 }
 
-/// Appends the answer of a request of which nothing is known: of data and of a frame's variables, of a symbol, of what
-/// is no request, and of an address in a file that can't be opened.
+/// Appends the answer that nothing is known. It is given for data, for a frame's variables, for a symbol, for a text
+/// that isn't a request, and for a file that can't be opened.
 pub fn write_unknown(
     out: &mut String,
     options: &PrinterOptions,

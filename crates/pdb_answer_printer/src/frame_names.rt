@@ -1,4 +1,4 @@
-//! What is printed of a frame, and which frames are printed.
+//! Which frames are printed, and the names and lines that are printed for them.
 
 ghost use Rattle.std.specs.Prelude.{◌≡◌};
 ghost use Rattle.pdb_answer_printer.specs.FrameNames.{file_of, function_of, line_of, shown_frames};
@@ -7,8 +7,8 @@ use crate::base_names::base_name;
 use crate::printer_options::{PrinterOptions, Style};
 use pdb_frames::{Frame, FunctionFrames};
 
-/// The frames that are printed: without inlined functions one alone, in GNU's form the innermost, and else the
-/// function itself.
+/// The frames that are printed. Without inlined functions it is one: the innermost in GNU style, otherwise the
+/// containing function.
 pub fn shown_frames<'f, 'a>(
     options: &PrinterOptions,
     found: &'f Option<FunctionFrames<'a>>,
@@ -28,7 +28,7 @@ pub fn shown_frames<'f, 'a>(
     }
 }
 
-/// The name of a frame's file as it is printed, or this text where it isn't known.
+/// The name of a frame's file as it is printed, or the text `unknown`.
 pub fn file_of<'f>(options: &PrinterOptions, frame: &'f Frame<'_>, unknown: &'f str) -> &'f str
     ensures { result.now ≡ file_of options.now unknown.now frame.now }
 {
@@ -39,7 +39,7 @@ pub fn file_of<'f>(options: &PrinterOptions, frame: &'f Frame<'_>, unknown: &'f 
     }
 }
 
-/// The name of a frame's function, or this text where it isn't known.
+/// The name of a frame's function, or the text `unknown`.
 pub(crate) fn function_of<'f>(frame: &'f Frame<'_>, unknown: &'f str) -> &'f str
     ensures { result.now ≡ function_of unknown.now frame.now }
 {
@@ -49,7 +49,7 @@ pub(crate) fn function_of<'f>(frame: &'f Frame<'_>, unknown: &'f str) -> &'f str
     }
 }
 
-/// The line of a frame.
+/// The line of a frame; 0 if it isn't known.
 pub(crate) fn line_of(frame: &Frame<'_>) -> u32
     ensures { result ≡ line_of frame.now }
 {

@@ -1,11 +1,12 @@
-//! The file that a line names.
+//! Parses the file that a line names.
 
 ghost use Rattle.std.specs.Prelude.{◌≡◌, ◌<◌};
 ghost use Rattle.pdb_answer_printer.specs.InputLineParser.{cut_at, cut_quoted, named_file, split_file};
 
 use crate::input_numbers::after_prefix;
 
-/// The file in front, after `FILE:` or by itself, and what follows it. Without one the file is empty.
+/// Splits a text into the file at its beginning, with or without `FILE:` before it, and the rest. The file is empty if
+/// there is none.
 pub(crate) fn split_file(text: &str) -> (&str, &str)
     ensures front { result.0.now ≡ (split_file text.now).front }
     ensures rest { result.1.now ≡ (split_file text.now).rest }
@@ -29,7 +30,7 @@ fn named_file(text: &str) -> (&str, &str)
     }
 }
 
-// What stands before the mark that ends a text in quotation marks, and after it.
+// Splits a text at the mark that closes a quotation.
 fn cut_quoted(text: &str, mark: char) -> (&str, &str)
     requires { mark < 128 }
     ensures front { result.0.now ≡ (cut_quoted mark text.now).front }

@@ -1,40 +1,41 @@
-//! What is asked for: code, data or a function's variables, at an address or of a symbol.
+//! `InputLine`: a parsed request for code, data or a function's variables, at an address or a symbol.
 
 ghost use Rattle.std.specs.Prelude.{◌≡◌, option_map};
 ghost use Rattle.pdb_answer_printer.specs.InputLine.{asks_nothing, target_of, words_of};
 
-/// What is asked for.
+/// What a request asks for.
 #[derive(Clone, Copy, PartialEq, Eq)]
 pub enum Sort {
     Code,
     Data,
-    /// The variables of the function over an address.
+    /// The variables of the function at an address.
     Frame,
 }
 
-/// Where it is asked for.
+/// The address or symbol of a request.
 #[derive(Clone, Copy)]
 pub enum InputTarget<'t> {
     Address(u64),
-    /// The name of a symbol, which is looked up nowhere.
+    /// The name of a symbol. Symbols aren't looked up.
     Symbol(&'t str),
-    /// Nowhere: the text lacks this.
+    /// The text isn't a request, because this part is missing or wrong.
     Nowhere(Lack),
 }
 
-/// What a text lacks that asks for nothing.
+/// Why a text isn't a request.
 #[derive(Clone, Copy, PartialEq, Eq)]
 pub enum Lack {
-    /// It is empty.
+    /// The text is empty.
     Text,
     File,
     Address,
-    /// What begins as a number is none.
+    /// A word that begins with a digit isn't a number.
     Number,
 }
 
 impl Lack {
-    /// What is said of it, unless the text is empty, as one that asks whether the program still answers.
+    /// The message for this reason. An empty text has none, because callers send one to check whether the program still
+    /// answers.
     pub fn words(self) -> Option<&'static str>
         ensures { option_map (λ text. text.now) result ≡ words_of self }
     {
@@ -47,7 +48,7 @@ impl Lack {
     }
 }
 
-/// A question.
+/// A parsed request.
 #[derive(Clone, Copy)]
 pub struct InputLine<'t> {
     pub sort: Sort,
@@ -57,7 +58,7 @@ pub struct InputLine<'t> {
 }
 
 impl InputLine<'_> {
-    /// Whether it asks for nothing.
+    /// Whether the text isn't a request.
     pub fn is_nowhere(&self) -> bool
         ensures { result ≡ asks_nothing (target_of self.now.place) }
     {

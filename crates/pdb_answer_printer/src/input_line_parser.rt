@@ -1,6 +1,6 @@
-//! What a line of standard input or a word asks for: code, data or a frame's variables, at an address or of a symbol.
+//! Parses requests: a line of standard input, or a word of the command line.
 //!
-//! The file is the one that the line names, or that of the command line.
+//! The file is the one that the text names, or that of the command line.
 
 ghost use Rattle.std.specs.Prelude.{◌≡◌, option_map};
 ghost use Rattle.pdb_answer_printer.specs.InputLineParser.{file_of_text, lacking, request_in, request_of, sort_of};
@@ -12,8 +12,8 @@ use crate::input_numbers::after_prefix;
 use crate::input_words::{first_word, place_of};
 use crate::printer_options::Digits;
 
-/// The request of a text: `CODE`, `DATA` or `FRAME` if any, the file where none is given here, which may stand in
-/// quotation marks, and the address. What follows that counts for nothing.
+/// Parses a request. Its parts are `CODE`, `DATA` or `FRAME`, which may be missing; then the file, unless `file` gives
+/// it; then the address. The file may be in quotation marks. The rest of the text is ignored.
 pub fn parse_input_line<'t>(text: &'t str, file: Option<&'t str>, digits: Digits) -> InputLine<'t>
     ensures { question_of result ≡ request_of text.now (option_map (λ name. name.now) file.entry) digits }
 {

@@ -1,4 +1,4 @@
-//! Addresses, as words give them.
+//! Parses addresses and numbers from the words of a command line or of an input line.
 
 ghost use Rattle.std.specs.Prelude.{◌≡◌, ◌≤◌, option_map, codes};
 ghost use Rattle.pdb_answer_printer.specs.InputNumbers.{address_of, after_prefix, binary_digits, hexadecimal_digits};
@@ -7,7 +7,8 @@ ghost use Rattle.pdb_answer_printer.specs.InputNumbers.{plain_number_by, prefixe
 
 use crate::printer_options::Digits;
 
-/// The number of an address.
+/// Parses an address: as hexadecimal digits, or in the radix that its prefix says, depending on `digits`. `None` if the
+/// text is no such number or doesn't fit 64 bits.
 pub fn parse_address(text: &str, digits: Digits) -> Option<u64>
     ensures { result ≡ address_of text.now digits }
 {
@@ -17,7 +18,7 @@ pub fn parse_address(text: &str, digits: Digits) -> Option<u64>
     }
 }
 
-/// The number of these hexadecimal digits, with `0x` or `0X` before them or without.
+/// Parses hexadecimal digits, with or without `0x` or `0X` before them.
 pub fn parse_number(text: &str) -> Option<u64>
     ensures { result ≡ hexadecimal_number text.now }
 {
@@ -27,7 +28,8 @@ pub fn parse_number(text: &str) -> Option<u64>
     }
 }
 
-// The number of digits whose radix the letters before them say.
+// Parses digits whose prefix says their radix: `0x`, `0X`, `0b`, `0B`, `0o`, or `0` for octal. Without one they are
+// decimal.
 fn parse_prefixed(text: &str) -> Option<u64>
     ensures { result ≡ prefixed_number text.now }
 {
@@ -37,7 +39,7 @@ fn parse_prefixed(text: &str) -> Option<u64>
     }
 }
 
-// The same of a text that doesn't begin as a hexadecimal number.
+// Parses a text without `0x` or `0X`: binary after `0b` or `0B`.
 fn parse_binary(text: &str) -> Option<u64>
     ensures { result ≡ binary_number_by (binary_digits text.now) text.now }
 {
@@ -47,7 +49,7 @@ fn parse_binary(text: &str) -> Option<u64>
     }
 }
 
-// The same of one that doesn't begin as a binary number either.
+// Parses a text that also has no `0b` or `0B`: octal after `0o`.
 fn parse_octal(text: &str) -> Option<u64>
     ensures { result ≡ octal_number_by (after_prefix (codes "0o") text.now) text.now }
 {
@@ -57,7 +59,7 @@ fn parse_octal(text: &str) -> Option<u64>
     }
 }
 
-// The same of one that begins with no letter.
+// Parses a text without any prefix of letters: octal after a leading `0`, else decimal.
 fn parse_plain(text: &str) -> Option<u64>
     ensures { result ≡ plain_number_by (after_prefix (codes "0") text.now) text.now }
 {
@@ -85,14 +87,14 @@ fn binary_digits(text: &str) -> Option<&str>
     }
 }
 
-/// The rest of a text that begins with this one.
+/// The rest of `text` after the prefix `front`; `None` if it doesn't begin with that.
 pub(crate) fn after_prefix<'t>(text: &'t str, front: &str) -> Option<&'t str>
     ensures { option_map (λ rest. rest.now) result ≡ after_prefix front.now text.now }
 {
     text.strip_prefix(front)
 }
 
-// The number of these digits, where no sign stands before them.
+// Parses digits of a radix. A sign is refused, although `from_str_radix` would take a `+`.
 fn unsigned(digits: &str, radix: u32) -> Option<u64>
     requires least { 2 ≤ radix }
     requires most { radix ≤ 16 }

@@ -1,4 +1,4 @@
-//! The word of a line that says where something is asked for.
+//! Parses the word of a request that is its address or symbol.
 
 ghost use Rattle.std.specs.Prelude.{◌≡◌};
 ghost use Rattle.pdb_answer_printer.specs.InputLineParser.{first_word, symbol_by, symbol_of, word_target};
@@ -9,7 +9,7 @@ use crate::input_line::{InputTarget, Lack};
 use crate::input_numbers::parse_address;
 use crate::printer_options::Digits;
 
-/// The first word of a text; empty where there is none.
+/// The first word of a text; empty if there is none.
 pub(crate) fn first_word(text: &str) -> &str
     ensures { result.now ≡ first_word text.now }
 {
@@ -19,7 +19,7 @@ pub(crate) fn first_word(text: &str) -> &str
     }
 }
 
-/// Where a word asks: at an address, or of a symbol.
+/// The address or the symbol that a word names.
 pub(crate) fn place_of(word: &str, digits: Digits) -> InputTarget<'_>
     ensures { target_of result ≡ word_target word.now digits }
 {
@@ -33,7 +33,7 @@ pub(crate) fn place_of(word: &str, digits: Digits) -> InputTarget<'_>
     }
 }
 
-// The symbol of a word, which may have an offset after a plus sign.
+// The symbol that a word names, without an offset after a plus sign.
 fn symbol_of(word: &str) -> &str
     ensures { result.now ≡ symbol_of word.now }
 {

@@ -1,4 +1,4 @@
-//! The JSON objects of frames.
+//! Writes the JSON objects of frames.
 
 ghost use Rattle.std.specs.Prelude.{◌≡◌, ◌++◌, [], codes, string_bytes, OnOk};
 ghost use Rattle.pdb_answer_printer.specs.JsonObjects.{found_frames, frame_object, frames_member, json_frame};
@@ -13,7 +13,7 @@ use pdb_frames::Frame;
 use pdb_symbolication::write_quoted;
 use std::alloc::AllocError;
 
-/// Appends the member that has the frames, or one without names where there is none.
+/// Appends the member `Symbol` with the frames. If there are none, it has one frame with empty names.
 pub(crate) fn write_frames_member(
     out: &mut String,
     options: &PrinterOptions,
@@ -43,7 +43,7 @@ fn write_found_frames(
     write_json_frames(out, options, frames, sources)
 }
 
-// Appends frames from inside to outside, with a comma between two.
+// Appends frames, the innermost first, with commas between them.
 fn write_json_frames(
     out: &mut String,
     options: &PrinterOptions,
@@ -63,7 +63,7 @@ fn write_json_frames(
     Ok(())
 }
 
-// What stands before each frame but the first.
+// The text before each frame except the first.
 fn separator() -> &'static str
     ensures { result.now ≡ codes "," }
 {
@@ -76,7 +76,7 @@ fn write_no_frame(out: &mut String) -> Result<(), AllocError>
     write_frame_object(out, "", "", 0, no_source())
 }
 
-// Appends a frame, after a text that says whether it is the first.
+// Appends a frame, after the text `start`.
 fn write_json_frame(
     out: &mut String,
     options: &PrinterOptions,
@@ -93,7 +93,7 @@ fn write_json_frame(
     write_frame_object(out, file, function, line_of(frame), source)
 }
 
-// The name of a frame's function, unless no names are wanted.
+// The name of a frame's function; empty if the options want no names.
 fn json_function<'f>(options: &PrinterOptions, frame: &'f Frame<'_>) -> &'f str
     ensures { result.now ≡ json_function options.now.names frame.now }
 {

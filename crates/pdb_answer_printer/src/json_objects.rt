@@ -1,4 +1,4 @@
-//! The JSON object of an answer, whose members stand in the order of their names, as `llvm-symbolizer` has them.
+//! Writes the JSON object of an answer. Its members are sorted by name, as `llvm-symbolizer` has them.
 
 ghost use Rattle.std.specs.Prelude.{◌≡◌, ◌++◌, [], codes, string_bytes, OnOk};
 ghost use Rattle.pdb_answer_printer.specs.AnswerText.{error_text};
@@ -15,7 +15,7 @@ use pdb_frames::Frame;
 use pdb_symbolication::write_quoted;
 use std::alloc::AllocError;
 
-/// Appends the object of frames, which has one without names where there is none.
+/// Appends the object of an answer with frames. If there are none, it has one frame with empty names.
 pub(crate) fn write_json_answer(
     out: &mut String,
     options: &PrinterOptions,
@@ -32,7 +32,7 @@ pub(crate) fn write_json_answer(
     out.push_str("}")
 }
 
-/// Appends the object of a request of which nothing is known.
+/// Appends the object of an answer that nothing is known.
 pub(crate) fn write_json_unknown(
     out: &mut String,
     options: &PrinterOptions,
@@ -53,7 +53,7 @@ pub(crate) fn write_json_unknown(
     }
 }
 
-// Appends an object with these members.
+// Appends an object with the text `members` between the address and the file.
 fn write_object_with(
     out: &mut String,
     request: &InputLine<'_>,
@@ -68,7 +68,7 @@ fn write_object_with(
     out.push_str("}")
 }
 
-/// Appends the object that says why a file can't be opened.
+/// Appends the object for a file that can't be opened, with the error.
 pub fn write_json_error(
     out: &mut String,
     request: &InputLine<'_>,
@@ -91,7 +91,7 @@ fn write_error(out: &mut String, why: &str) -> Result<(), AllocError>
     out.push_str("},")
 }
 
-// Appends what an object begins with: the address, where one is asked for.
+// Appends the beginning of an object, with the address if the request has one.
 #[tactic(auto, unfolding(crate::specs::JsonObjects::object_front))]
 fn open_object(out: &mut String, request: &InputLine<'_>) -> Result<(), AllocError>
     ensures { OnOk result (string_bytes out.new
@@ -103,7 +103,7 @@ fn open_object(out: &mut String, request: &InputLine<'_>) -> Result<(), AllocErr
     }
 }
 
-// Appends the names of the file and of the symbol.
+// Appends the names of the file and, if the request has one, of the symbol.
 fn write_file(out: &mut String, request: &InputLine<'_>) -> Result<(), AllocError>
     ensures { OnOk result (string_bytes out.new
         ≡ string_bytes out.old ++ file_members (question_of request.now)) }

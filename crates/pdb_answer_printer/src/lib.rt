@@ -1,8 +1,8 @@
-//! The texts of `pdb_symbolizer`'s answers: the frames of an address in the styles of LLVM and GNU, or as JSON.
+//! The texts of `pdb_symbolizer`'s answers: frames in the styles of LLVM and GNU, or as JSON.
 //!
-//! [`write_answer`] appends the answer of an address of code, [`write_unknown`] that of a request of which nothing is
-//! known, and [`write_json_error`] the JSON object for a file that can't be opened. What each appends is a definition
-//! of `specs/`.
+//! [`write_answer`] appends the answer for a code address, [`write_unknown`] the answer that nothing is known, and
+//! [`write_json_error`] the JSON object for a file that can't be opened. The text that each appends is defined in
+//! `specs/`.
 #![tactic(auto)]
 
 mod answer_lines;

@@ -1,57 +1,57 @@
-//! How answers are printed.
+//! `PrinterOptions`: how answers are printed.
 
-/// What is printed of a function's name.
+/// How much of a function's name is printed.
 #[derive(Clone, Copy, PartialEq, Eq)]
 pub enum NameStyle {
     /// Nothing.
     None,
-    /// The name alone.
+    /// Only the name.
     Short,
     /// The name with the types of the arguments.
     Signature,
 }
 
-/// The form of the answers.
+/// The output style of answers.
 #[derive(Clone, Copy, PartialEq, Eq)]
 pub enum Style {
-    /// Name, place, and an empty line after them.
+    /// Name and location, with an empty line after each answer.
     Llvm,
-    /// Name and place, with no column.
+    /// Name and location, without a column.
     Gnu,
     /// A JSON object on one line.
     Json,
 }
 
-/// How much is printed of where a frame's code came from.
+/// How a frame's source location is printed.
 #[derive(Clone, Copy, PartialEq, Eq)]
 pub enum Detail {
     /// File, line and column in one line.
     Brief,
-    /// Each on a line of its own.
+    /// File, line and column on lines of their own.
     Verbose,
 }
 
-/// The options on the text of an answer.
+/// The options for the text of an answer.
 #[derive(Clone, Copy)]
 pub struct PrinterOptions {
     pub style: Style,
     pub names: NameStyle,
     pub detail: Detail,
-    /// Whether the functions are printed that were inlined.
+    /// Whether inlined functions are printed.
     pub inlines: bool,
     /// Whether the address is printed before its answer.
     pub address_shown: bool,
-    /// Whether what belongs to one frame stands on one line.
+    /// Whether name and location of a frame are printed on one line.
     pub pretty: bool,
-    /// Whether folders are left out of the names of files.
+    /// Whether files are printed without their folders.
     pub basenames: bool,
 }
 
-/// How digits are read that say nothing of it.
+/// How the radix of a number is determined.
 #[derive(Clone, Copy, PartialEq, Eq)]
 pub enum Digits {
-    /// As hexadecimal ones.
+    /// All digits are hexadecimal.
     Hexadecimal,
-    /// As decimal ones, but after `0x`, `0b`, `0o` or a zero.
+    /// By the prefix `0x`, `0b`, `0o` or `0`. Without one, digits are decimal.
     ByPrefix,
 }

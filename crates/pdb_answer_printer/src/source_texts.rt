@@ -1,4 +1,4 @@
-//! What is printed of a frame's source file besides its name and the line: its URL, and lines of its text.
+//! What is printed of a frame's source file besides its name: its URL, and lines of its text.
 
 ghost use Rattle.std.specs.Prelude.{◌≡◌, []};
 ghost use Rattle.pdb_answer_printer.specs.SourceTexts.{first_source, later_sources, source_of};

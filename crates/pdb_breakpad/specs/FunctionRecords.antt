@@ -9,8 +9,8 @@ use Rattle.pdb_breakpad.specs.InlineRecords.{LevelEndsBefore, calls_at}
 use Rattle.pdb_breakpad.specs.NumberedCode.{AreCalls, IsCode, IsOptionalPlace}
 use Rattle.pdb_breakpad.specs.ShownFrames.{ShownCall, ShownFrame, ShownPlace, own_name, stack_read}
 
--- a reader of a function's records is shown these frames at an address: those by the function's name, the inlined calls
--- over the address, level by level, and the line over it, with names by their numbers
+-- a reader of a function's records finds these frames at an address: by the function's name, the inlined calls at the
+-- address level by level, and the line there, with names by their numbers
 abbrev pub Reads : Numbers → FunctionRecords → ℕ → List ShownFrame → Type 0
 Reads numbers records address shown = (calls : List ShownCall) × ((place : Option ShownPlace)
     × (AreCalls numbers (calls_at address records.inlines) calls
@@ -27,6 +27,6 @@ abbrev pub InOrder : FunctionRecords → Type 0
 InOrder records = ((level : ℕ) → LevelEndsBefore (records.last + 1) records.inlines level)
     × EndBefore (records.last + 1) records.lines
 
--- what is known of the code at the last address is that of the answer there
+-- the numbered frames of the code at the last address are those of the answer there
 abbrev pub IsNumbered : Numbers → FunctionRecords → Type 0
 IsNumbered numbers records = IsCode numbers records.code (map frame_text records.found.frames)

@@ -33,16 +33,15 @@ line_text text = flat_map name_character (chars text)
 unfoldable pub name_line : List ℕ → List ℕ
 name_line name = line_text name ++ codes "\n"
 
--- how many addresses stand from one to another, both of them included
+-- the number of addresses from the first to the last, both included
 abbrev pub size_between : ℕ → ℕ → ℕ
 size_between first last = last - first + 1
 
--- how many bytes of parameters the function at an address takes from the stack: the value over its first address, or 0
+-- the size in bytes of the parameters that the function takes from the stack: the value at its first address, or 0
 abbrev pub parameter_size : List (Segment ℕ) → ℕ → ℕ
 parameter_size parameters start = unwrap_or (value_at parameters start) 0
 
--- what the record of a function begins with, with the size of its parameters: a function whose end isn't known has no
--- size
+-- the start of a function's record, with the size of its parameters; a function with an unknown end has no size
 abbrev pub function_head : ℕ → Option ℕ → ℕ → ℕ → List ℕ
 function_head size (Some end) start last =
     codes "FUNC " ++ (hexadecimal start ++ (codes " " ++ (hexadecimal (size_between start last)
@@ -50,7 +49,7 @@ function_head size (Some end) start last =
 function_head size None start last =
     codes "PUBLIC " ++ (hexadecimal start ++ (codes " " ++ (hexadecimal size ++ codes " ")))
 
--- the record of an inlined call: its level, the line and the file of the call, the function, and where it lies
+-- the record of an inlined call: its level, the line and the file of the call, the function, and its address range
 unfoldable pub inline_line : InlineRecord → List ℕ
 inline_line inlined =
     codes "INLINE " ++ (decimal inlined.level
@@ -60,7 +59,7 @@ inline_line inlined =
     ++ (codes " " ++ (hexadecimal inlined.span.start
     ++ (codes " " ++ (hexadecimal (size_between inlined.span.start inlined.span.last) ++ codes "\n")))))))))))
 
--- the record of a line: where its code lies, its number, and its file
+-- the record of a line: its address range, its number, and its file
 unfoldable pub line_line : Span SourceLocation → List ℕ
 line_line span =
     hexadecimal span.start ++ (codes " " ++ (hexadecimal (size_between span.start span.last)
@@ -72,11 +71,11 @@ inline_records_from level [] = []
 inline_records_from level (spans ∷ levels) =
     map (λ span. record { level = level; span = span }) spans ++ inline_records_from (level + 1) levels
 
--- how the records of two inlined calls stand to one another: by where they begin, and then from outside to inside
+-- the order of the records of two inlined calls: by start, and then from outside to inside
 abbrev pub inline_cmp : InlineRecord → InlineRecord → Ordering
 inline_cmp a b = ordering_then (nat_cmp a.span.start b.span.start) (nat_cmp a.level b.level)
 
--- the record of one inlined call stands before that of the other
+-- whether the record of one inlined call comes before that of the other
 abbrev pub inline_before : InlineRecord → InlineRecord → Bool
 inline_before a b = is_lt (inline_cmp a b)
 
@@ -84,8 +83,7 @@ inline_before a b = is_lt (inline_cmp a b)
 abbrev pub inline_lines : List (List (Span InlinedCall)) → List ℕ
 inline_lines levels = flat_map inline_line (in_order inline_before (inline_records_from 0 levels))
 
--- the text of a function's records: the function, its inlined calls, and its lines. The sizes of parameters are given by
--- addresses
+-- the text of a function's records: the function, its inlined calls, and its lines. The parameter sizes are by address
 abbrev pub function_text : List (Segment ℕ) → FunctionRecords → List ℕ
 function_text parameters records =
     function_head (parameter_size parameters records.start) records.found.end_rva records.start records.last

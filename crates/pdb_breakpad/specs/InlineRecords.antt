@@ -4,11 +4,11 @@ use Rattle.pdb_breakpad.specs.declared.address_spans.Span.{Span}
 use Rattle.pdb_breakpad.specs.declared.inline_records.InlinedCall.{InlinedCall}
 use Rattle.pdb_breakpad.specs.AddressSpans.{EndBefore, content_at, content_before}
 
--- the inlined call at an address that has so many calls outside of it
+-- the inlined call of a level at an address; the level is the number of calls outside of it
 abbrev pub call_at : ℕ → List (List (Span InlinedCall)) → ℕ → Option InlinedCall
 call_at address levels level = option_and_then (content_at address) (slice_get levels level)
 
--- the call at the address before this one that has so many calls outside of it
+-- the inlined call of a level just before an address
 abbrev pub call_before : ℕ → List (List (Span InlinedCall)) → ℕ → Option InlinedCall
 call_before address levels level = option_and_then (content_before address) (slice_get levels level)
 
@@ -16,12 +16,12 @@ call_before address levels level = option_and_then (content_before address) (sli
 abbrev pub LevelEndsBefore : ℕ → List (List (Span InlinedCall)) → ℕ → Type 0
 LevelEndsBefore address levels level = IfSome (slice_get levels level) (EndBefore address)
 
--- a call with those inside of it, or none where there is no such call
+-- a call with the calls inside it, or no calls if there is no outer one
 abbrev pub with_inner : Option InlinedCall → List InlinedCall → List InlinedCall
 with_inner None inner = []
 with_inner (Some call) inner = call ∷ inner
 
--- the inlined calls at an address, from outside to inside: level by level, as long as there is one
+-- the inlined calls at an address, from outside to inside, up to the first level without one
 abbrev pub calls_at : ℕ → List (List (Span InlinedCall)) → List InlinedCall
 calls_at address [] = []
 calls_at address (level ∷ levels) = with_inner (content_at address level) (calls_at address levels)

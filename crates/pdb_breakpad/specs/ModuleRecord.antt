@@ -1,4 +1,4 @@
--- The records in front: of which program and which PDB file the others are.
+-- The first records: of which program and which PDB file the others are.
 use Rattle.std.specs.Prelude.{ℕ, ◌≡◌, ◌≢◌, ◌⊎◌, List, [], ◌∷◌, ◌++◌, codes, Option, Some, None}
 use Rattle.std.specs.List.{All}
 use Rattle.pdb_identity.specs.declared.machine.Machine.{Machine}
@@ -6,7 +6,7 @@ use Rattle.pdb_breakpad.specs.declared.module_record.ModuleIdentity.{ModuleIdent
 use Rattle.pdb_breakpad.specs.declared.module_record.ProgramIdentity.{ProgramIdentity}
 use Rattle.pdb_breakpad.specs.FunctionTexts.{line_text}
 
--- a line says which module a file is of
+-- a line is a record of the module or its program
 abbrev pub IsModuleLine : List ℕ → Type 0
 IsModuleLine line = (text : List ℕ) × (All (λ byte. byte ≢ 10) text)
     × ((line ≡ codes "MODULE " ++ text) ⊎ (line ≡ codes "INFO " ++ text))
@@ -47,7 +47,7 @@ abbrev pub module_lines : IdentityTexts → ModuleIdentity → List (List ℕ)
 module_lines texts identity =
     module_line texts.machine texts.debug_id identity.pdb_name.now ∷ program_lines texts.code_id identity.program
 
--- the text of a module's records, whatever the texts of its machine and of its ids are
+-- the text of a module's records, with some texts of its machine and of its ids
 pub record AreModuleRecords (identity : ModuleIdentity) (text : List ℕ) : Type 0 where
   pub texts : IdentityTexts
   pub machine : IsMachineText identity.machine texts.machine

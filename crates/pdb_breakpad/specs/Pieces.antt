@@ -1,14 +1,14 @@
--- The pieces of a program: runs of addresses over which the same is answered.
+-- The pieces of a program: runs of addresses with the same answer.
 use Rattle.std.specs.Prelude.{◌≡◌, ◌≤◌, ◌<◌, ◌+◌, ◌^◌, ℕ, List, Option, Some, slice_get, slice_index_or}
 use Rattle.std.specs.List.Sorted.{IsStrictlyIncreasing}
 use Rattle.pdb_frames.specs.Frame.{FramesInfo}
 
--- the first address after the piece at a position: where the next one begins, or after all addresses of 32 bits
+-- the end of the piece at a position: the start of the next one, or 2 ^ 32
 abbrev pub piece_end : List ℕ → ℕ → ℕ
 piece_end points position = slice_index_or points (position + 1) (2 ^ 32)
 
--- all addresses of 32 bits are in pieces, each of which begins at one of these points, and the answer at the first
--- address of a piece is the answer at each of its addresses
+-- the pieces at these points cover all 32-bit addresses. The answer at the first address of a piece is that at each of
+-- its addresses
 pub record ArePieces {S : Type 0} (answers : S → ℕ → Option FramesInfo → Type 0) (source : S) (points : List ℕ)
     : Type 0 where
   pub from_zero : slice_get points 0 ≡ Some 0

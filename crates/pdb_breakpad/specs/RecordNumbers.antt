@@ -2,7 +2,7 @@
 use Rattle.std.specs.Prelude.{ℕ, ◌≡◌, List, Some, slice_get, String}
 use Rattle.std.specs.BTreeMap.{BTreeMap, get_by_text}
 
--- a table has the numbers of names: under each name one at which it stands
+-- the number that a table has for a name is a position of that name in the list
 abbrev pub KnowsNumbers : {Y : Type 0} → BTreeMap (String Y) ℕ → List (List ℕ) → Type 0
 KnowsNumbers numbers names = (name : List ℕ) (number : ℕ)
     → get_by_text numbers name ≡ Some number → slice_get names number ≡ Some name

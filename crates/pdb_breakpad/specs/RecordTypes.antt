@@ -1,4 +1,4 @@
--- The types of a symbol file's records, by which laws of other crates speak of them.
+-- The types of a symbol file's records, under names for laws of other crates.
 use Rattle.pdb_breakpad.specs.declared.address_spans.Span.{Span as DeclaredSpan}
 use Rattle.pdb_breakpad.specs.declared.function_records.FunctionRecords.{FunctionRecords as DeclaredFunctionRecords}
 use Rattle.pdb_breakpad.specs.declared.inline_records.InlinedCall.{InlinedCall as DeclaredInlinedCall}
@@ -6,19 +6,19 @@ use Rattle.pdb_breakpad.specs.declared.inline_records.InlineRecord.{InlineRecord
 use Rattle.pdb_breakpad.specs.declared.numbered_code.SourceLocation.{SourceLocation as DeclaredPlace}
 use Rattle.pdb_breakpad.specs.declared.record_numbers.Numbers.{Numbers as DeclaredNumbers}
 
--- what holds over addresses that follow one another
+-- a run of addresses with their content
 abbrev pub Span : Type 0 → Type 0
 Span T = DeclaredSpan T
 
--- a function, as far as its addresses were gone through
+-- the records of a function, as far as its addresses were visited
 abbrev pub FunctionRecords : Type 0
 FunctionRecords = DeclaredFunctionRecords
 
--- a call in whose place the body of the function stands
+-- a call that is replaced by the function's body
 abbrev pub InlinedCall : Type 0
 InlinedCall = DeclaredInlinedCall
 
--- an inlined call with the addresses over which it is the one at its level
+-- an inlined call of a level, with the addresses that it covers
 abbrev pub InlineRecord : Type 0
 InlineRecord = DeclaredInlineRecord
 
@@ -26,6 +26,6 @@ InlineRecord = DeclaredInlineRecord
 abbrev pub SourceLocation : Type 0
 SourceLocation = DeclaredPlace
 
--- the numbers of a symbol file
+-- the numbers of files and functions in a symbol file
 abbrev pub Numbers : Type 0
 Numbers = DeclaredNumbers

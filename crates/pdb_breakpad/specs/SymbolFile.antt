@@ -1,4 +1,4 @@
--- A symbol file whole: its text, and what a reader of it is shown.
+-- A whole symbol file: its text, and what a reader finds in it.
 use Rattle.std.specs.Prelude.{ℕ, List, ◌++◌, codes, Option}
 use Rattle.std.specs.Io.KnownBytes.{Appends}
 use Rattle.std.specs.List.{All, flat_map}
@@ -13,7 +13,7 @@ use Rattle.pdb_breakpad.specs.ModuleRecord.{AreModuleRecords}
 use Rattle.pdb_breakpad.specs.NameRecords.{name_records}
 use Rattle.pdb_breakpad.specs.WrittenRecords.{FitNumbers, FitTypes, InlinesAscend}
 
--- the records of files, and those of inlined functions' names, by their numbers
+-- the records of files and of inlined functions' names, by their numbers
 abbrev pub names_text : Numbers → List ℕ
 names_text numbers =
     name_records (codes "FILE ") 0 numbers.files ++ name_records (codes "INLINE_ORIGIN ") 0 numbers.origins
@@ -23,9 +23,9 @@ abbrev pub symbol_file_text : List ℕ → Numbers → List (Segment ℕ) → Li
 symbol_file_text front numbers parameters functions =
     front ++ (names_text numbers ++ flat_map (function_text parameters) functions)
 
--- the text of a symbol file was written: after the records of this module those of files and names, by numbers that
--- fit, and those of functions that are right at each address by these numbers, have these sizes of parameters, fit their
--- types and have inlined calls that ascend
+-- the text of a symbol file was written: the records of this module, those of files and names, and those of functions.
+-- The numbers fit, and the functions show the source's answers, have these parameter sizes, fit their types and have
+-- ascending inlined calls
 pub record WritesSymbolFile {S : Type 0} (answers : S → ℕ → Option FramesInfo → Type 0) (source : S)
     (identity : ModuleIdentity) (parameters : List (Segment ℕ)) (old new : Option (List ℕ)) : Type 0 where
   pub front : List ℕ

@@ -1,4 +1,4 @@
--- What is known of the records that are written: they fit their types, and inlined calls ascend.
+-- Laws on the written records: they fit their types, and inlined calls ascend.
 use Rattle.std.specs.Prelude.{ℕ, ◌≤◌, ◌<◌, ◌^◌, List, length}
 use Rattle.std.specs.List.{All}
 use Rattle.pdb_tables.specs.declared.segment.Segment.{Segment}
@@ -10,7 +10,7 @@ use Rattle.pdb_breakpad.specs.declared.numbered_code.SourceLocation.{SourceLocat
 use Rattle.pdb_breakpad.specs.AddressSpans.{Ascend}
 use Rattle.pdb_breakpad.specs.FunctionTexts.{parameter_size}
 
--- what a span is of fits its type, and so do its addresses
+-- the content of a span and its addresses fit their types
 abbrev pub FitsSpan : {T : Type 0} → (T → Type 0) → Span T → Type 0
 FitsSpan Fits span = (span.start < 2 ^ 32) × (span.last < 2 ^ 32) × Fits span.content
 

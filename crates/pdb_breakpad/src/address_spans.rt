@@ -1,4 +1,4 @@
-//! What holds over addresses, by ranges of them that follow one another.
+//! `AddressSpans`: ascending address ranges, each with a value.
 
 ghost use Rattle.std.specs.Prelude.{◌≡◌, ◌≤◌, ◌<◌, ◌+◌, ◌++◌, ℕ, [], ◌∷◌, Some, IsSome, OnOk};
 ghost use Rattle.pdb_breakpad.specs.FunctionTexts.{size_between};
@@ -8,23 +8,23 @@ use crate::pieces::Piece;
 use std::alloc::{AllocError, Global};
 use std::marker::Model;
 
-/// What holds over addresses that follow one another.
+/// A range of addresses with a value.
 #[derive(Clone, Copy)]
 pub(crate) struct Span<T> {
     pub content: T,
     pub start: u32,
-    /// The last address of it.
+    /// The last address of the range.
     pub last: u32,
 }
 
-/// How many addresses stand from one to another, both of them included.
+/// The number of addresses from `first` to `last`, both included.
 pub(crate) fn size_between(first: u32, last: u32) -> u64
     ensures { result ≡ size_between first last }
 {
     u64::from(last.saturating_sub(first)) + 1
 }
 
-/// What holds over addresses, each content with the addresses that it is of, ascending.
+/// Ranges of addresses in ascending order, each with a value.
 #[derive(Drop)]
 pub(crate) struct AddressSpans<T: Copy> {
     spans: Vec<Span<T>>,
@@ -43,7 +43,7 @@ impl<T: Copy> Model for AddressSpans<T> {
 }
 
 impl<T: Copy> AddressSpans<T> {
-    /// Nothing, over no addresses.
+    /// No ranges.
     pub(crate) fn new(alloc: Global) -> Self
         ensures { result ≡ [] }
     {
@@ -52,7 +52,7 @@ impl<T: Copy> AddressSpans<T> {
         }
     }
 
-    /// The spans, by where they begin.
+    /// The ranges, sorted by start.
     pub(crate) fn spans(&self) -> &[Span<T>]
         ensures answer { result.now ≡ self.now }
         ensures order { Ascend self.now }
@@ -60,7 +60,7 @@ impl<T: Copy> AddressSpans<T> {
         &self.spans
     }
 
-    /// What holds at the address before this one, if the last span ends there.
+    /// The value of the last range, if it ends directly before this address.
     pub(crate) fn content_before(&self, address: u32) -> Option<T>
         ensures { result ≡ content_before address self.now }
     {
@@ -71,7 +71,7 @@ impl<T: Copy> AddressSpans<T> {
         None
     }
 
-    /// Has what holds at the address before a piece go on over it. All other addresses stand before it.
+    /// Extends the last range to the end of a piece that follows it.
     #[tactic(auto, using(crate::proofs::AddressSpanLemmas::lengthened))]
     pub(crate) fn lengthen(&mut self, piece: Piece) -> Result<(), AllocError>
         requires order { EndBefore piece.first self.old }
@@ -92,7 +92,7 @@ impl<T: Copy> AddressSpans<T> {
         Ok(())
     }
 
-    /// Has this hold over a piece. All other addresses stand before it.
+    /// Appends a range for a piece, which is after all other ranges.
     #[tactic(auto, using(crate::proofs::AddressSpanLemmas::begun))]
     pub(crate) fn begin(&mut self, piece: Piece, content: T) -> Result<(), AllocError>
         requires order { EndBefore piece.first self.old }

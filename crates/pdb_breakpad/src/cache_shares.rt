@@ -1,22 +1,23 @@
-//! How many functions a source may cache before it gives their memory back.
+//! `CacheShare`: after how many functions a source's caches are cleared.
 
 ghost use Rattle.pdb_breakpad.specs.FrameSource.{KeepsAnswers};
 
 use crate::frame_source::FrameSource;
 
-/// The least number of functions in a share, so that what several functions have in common is seldom found anew.
+/// The least number of functions between two clearings. Fewer would make the source often recompute what functions have
+/// in common.
 const LEAST_SIZE: usize = 4096;
 
-/// A share of a program's functions, of which a source may cache what it finds.
+/// A share of a program's functions, after which the source's caches are cleared.
 #[derive(Drop)]
 pub(crate) struct CacheShare {
     size: usize,
-    /// How many functions of it were counted.
+    /// How many functions of this share were counted.
     counted: usize,
 }
 
 impl CacheShare {
-    /// The first share of functions, of which so many starts are known: an eighth of them.
+    /// The first share, for a program with this many starts: an eighth of them.
     pub(crate) fn new(start_count: usize) -> CacheShare {
         CacheShare {
             size: (start_count / 8).max(LEAST_SIZE),
@@ -24,7 +25,7 @@ impl CacheShare {
         }
     }
 
-    /// Counts a function of a source, which clears its caches when the share is full. Then the next one begins.
+    /// Counts a function. If the share is full, clears the source's caches and begins the next share.
     pub(crate) fn count_function<'a, S: FrameSource<'a>>(&mut self, source: &mut S)
         ensures inputs { KeepsAnswers S.answers source.old source.new }
     {

@@ -1,4 +1,4 @@
-//! What a symbol file is made of: whatever answers where its pieces begin and what frames an address has.
+//! `FrameSource`: what a symbol file is written from, such as a session with all records.
 
 ghost use Rattle.std.specs.Prelude.{ℕ, Option, IfOk};
 ghost use Rattle.pdb_frames.specs.Frame.{FramesInfo};
@@ -11,23 +11,24 @@ use pdb_change_points::change_points;
 use pdb_session::SessionContext;
 use std::alloc::Global;
 
-/// Answers over a program. The same question has the same answer, as often as it is asked.
+/// Answers the frames at addresses of a program. Each address always has the same answer.
 pub trait FrameSource<'a> {
-    /// Whether this is the answer at an address.
+    /// Whether these frames are the answer at an address.
     ghost answers: { Self → ℕ → Option FramesInfo → Type 0 };
 
-    /// Where the pieces of the program begin, ascending: the first at address 0. Over all addresses of a piece the
-    /// answer is the same.
+    /// The first address of each piece of the program, in ascending order; the first one is 0. All addresses of a piece
+    /// have the same answer.
     fn piece_starts(&mut self, alloc: Global) -> Result<Vec<u32>, SymbolFileError>
         ensures pieces { IfOk result (λ starts. ArePieces answers self.new starts.items) }
         ensures inputs { KeepsAnswers answers self.old self.new };
 
-    /// The functions in whose code an address lies, from inside to outside. `None` where no function is known there.
+    /// The frames at an address, from the innermost inlined function to the containing function. `None` if no function
+    /// is known there.
     fn find_frames(&mut self, address: u32) -> Result<Option<FunctionFrames<'a>>, SymbolFileError>
         ensures answer { IfOk result (λ found. answers self.old address found) }
         ensures inputs { KeepsAnswers answers self.old self.new };
 
-    /// Gives the memory back of what was found so far, where it is held for later questions.
+    /// Frees the memory of cached results.
     fn clear_caches(&mut self)
         ensures inputs { KeepsAnswers answers self.old self.new };
 }

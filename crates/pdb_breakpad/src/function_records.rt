@@ -1,4 +1,4 @@
-//! The records of a function: where it lies, its inlined calls and its lines, made address by address.
+//! The records of a function: its addresses, its inlined calls and its lines, collected piece by piece.
 
 ghost use Rattle.std.specs.Prelude.{◌≡◌, ◌≤◌, ◌<◌, ◌+◌, ℕ, List, [], true, Some, None, is_some, IfOk, OnOk};
 ghost use Rattle.std.specs.Prelude.{◌++◌, All, string_bytes, if◌then◌else◌};
@@ -22,12 +22,12 @@ use pdb_addr2line::FunctionFrames;
 use pdb_tables::{Probes, Segments};
 use std::alloc::{AllocError, Global};
 
-/// A function, as far as its addresses were gone through.
+/// The records of a function so far, while the walk is still inside it.
 #[derive(Drop)]
 pub(crate) struct FunctionRecords<'a> {
-    /// The answer at the last address, with its frames from outside to inside.
+    /// The answer at the last address, with its frames from the outermost to the innermost.
     found: FunctionFrames<'a>,
-    /// What is known of the code there.
+    /// The inlined calls and the location at the last address.
     code: NumberedCode,
     start: u32,
     last: u32,
@@ -37,8 +37,8 @@ pub(crate) struct FunctionRecords<'a> {
 
 impl<'a> FunctionRecords<'a> {
     #[tactic(auto, using(crate::proofs::FunctionRecordLemmas::recorded))]
-    /// A function of which one piece has been gone through. The frames of the answer there stand from outside to
-    /// inside.
+    /// The records of a function whose first piece was reached. The frames of the answer are ordered from the outermost
+    /// to the innermost.
     pub(crate) fn new(
         alloc: Global,
         numbers: &mut Numbers,
@@ -65,8 +65,8 @@ impl<'a> FunctionRecords<'a> {
         Ok(records)
     }
 
-    /// Whether an answer, whose frames stand from outside to inside, is of this function: it has the same start, end
-    /// and name.
+    /// Whether an answer belongs to this function: it has the same start, end and name. Its frames are ordered from the
+    /// outermost to the innermost.
     pub(crate) fn is_of(&self, found: &FunctionFrames<'_>) -> bool
         ensures { result ≡ true → IsOf self.now.found found.now }
     {
@@ -76,7 +76,8 @@ impl<'a> FunctionRecords<'a> {
     }
 
     #[tactic(auto, using(crate::proofs::FunctionRecordLemmas::recorded))]
-    /// Adds the next piece with its answer, which is of this function. Its frames stand from outside to inside.
+    /// Adds the next piece, whose answer belongs to this function. Its frames are ordered from the outermost to the
+    /// innermost.
     pub(crate) fn add(
         &mut self,
         numbers: &mut Numbers,
@@ -108,8 +109,8 @@ impl<'a> FunctionRecords<'a> {
         self.add_code(piece, goes_on)
     }
 
-    // Adds what is known of the code over the last piece, unless the function's end isn't known. A line goes on where
-    // all frames are as before.
+    // Adds the calls and the line over the last piece, unless the function's end isn't known. If all frames are the
+    // same as before, the line record is extended.
     #[tactic(auto, using(crate::proofs::InlineRecordLemmas::past))]
     fn add_code(&mut self, piece: Piece, goes_on: bool) -> Result<(), AllocError>
         requires inlines { (level : ℕ) → LevelEndsBefore piece.first self.old.inlines level }
@@ -137,7 +138,7 @@ impl<'a> FunctionRecords<'a> {
         add_line(&mut self.lines, piece, place, goes_on)
     }
 
-    /// The text of the records, once all addresses are gone through, with the sizes of parameters by addresses. A
+    /// The text of the records, after the last piece was added. `parameters` has the sizes of parameters by address. A
     /// function whose end isn't known has no lines and no inlined calls.
     pub(crate) fn text(
         &self,
@@ -157,7 +158,7 @@ impl<'a> FunctionRecords<'a> {
     }
 }
 
-// How many bytes of parameters the function at an address takes from the stack.
+// How many bytes of parameters the function at an address takes from the stack; 0 if that isn't known.
 fn parameter_size(parameters: &Segments<u32>, start: u32) -> u32
     ensures { result ≡ parameter_size parameters.now start }
 {
@@ -165,7 +166,7 @@ fn parameter_size(parameters: &Segments<u32>, start: u32) -> u32
     parameters.find(u64::from(start), &mut probes).unwrap_or(0)
 }
 
-// Appends what the record of a function begins with, up to its name.
+// Appends the beginning of a function's record, up to its name.
 fn push_head(
     text: &mut String,
     parameter_size: u32,
@@ -183,7 +184,7 @@ fn push_head(
     }
 }
 
-// Adds the place of the code over a piece, which stands after all others.
+// Adds the source location of a piece, which is after all others.
 fn add_line(
     lines: &mut AddressSpans<SourceLocation>,
     piece: Piece,
@@ -227,7 +228,7 @@ fn push_line(text: &mut String, span: &Span<SourceLocation>) -> Result<(), Alloc
     write!(text, "{start:x} {size:x} {line} {file}\n")
 }
 
-// The name of the function itself, of an answer whose frames stand from outside to inside.
+// The name of the containing function, the first frame of an answer.
 fn own_name<'f>(found: &'f FunctionFrames<'_>) -> &'f str
     ensures { result.now ≡ own_name found.now.frames }
 {

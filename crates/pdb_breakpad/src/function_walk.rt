@@ -1,4 +1,4 @@
-//! The walk over all addresses, piece by piece, and the records of the functions that it comes to.
+//! Walks over all addresses piece by piece, and writes the records of each function.
 
 ghost use Rattle.std.specs.Prelude.{◌≡◌, ◌+◌, All, IfOk, OnOk, IfSome};
 ghost use Rattle.std.specs.Option.{option_to_list};
@@ -22,7 +22,7 @@ use pdb_tables::Segments;
 use std::alloc::Global;
 use std::io;
 
-/// Writes the records of all functions. The pieces of the program begin at these points, and each is asked once.
+/// Writes the records of all functions. Each piece begins at one of these points, and the source is asked once for it.
 pub(crate) fn write_functions<'a, S: FrameSource<'a>, W: io::Write>(
     alloc: Global,
     out: &mut W,
@@ -50,8 +50,8 @@ pub(crate) fn write_functions<'a, S: FrameSource<'a>, W: io::Write>(
     Ok(())
 }
 
-// Goes over a piece. The function that was walked goes on over it; or it ends, and the function over the piece begins,
-// if there is one.
+// Handles one piece. Either the current function continues over it; or that function ends, and the function at the
+// piece begins, if there is one.
 fn walk_piece<'a, S: FrameSource<'a>, W: io::Write>(
     alloc: Global,
     out: &mut W,
@@ -87,7 +87,7 @@ fn walk_piece<'a, S: FrameSource<'a>, W: io::Write>(
     Ok(Some(begun))
 }
 
-// The answer at an address, with its frames from outside to inside.
+// The answer at an address, with its frames from the outermost to the innermost.
 fn ask<'a, S: FrameSource<'a>>(
     source: &mut S,
     address: u32,
@@ -102,7 +102,7 @@ fn ask<'a, S: FrameSource<'a>>(
     Ok(found)
 }
 
-// Writes the records of a function that was walked, if one was.
+// Writes the records of the current function, if there is one.
 fn write_ended<W: io::Write>(
     alloc: Global,
     out: &mut W,

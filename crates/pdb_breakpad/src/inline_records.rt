@@ -1,4 +1,4 @@
-//! The inlined calls of a function, by their levels and addresses.
+//! The INLINE records of a function, by their levels and addresses.
 
 ghost use Rattle.std.specs.Prelude.{◌≡◌, ◌≢◌, ◌≤◌, ◌<◌, ◌+◌, ◌^◌, ◌++◌, ℕ, [], ◌∷◌, true, Some, length, slice_get};
 ghost use Rattle.std.specs.Prelude.{All, map, string_bytes, IfOk, OnOk};
@@ -15,19 +15,19 @@ use pdb_tables::{Keyed, sort_by_key};
 use std::alloc::{AllocError, Global};
 use std::marker::Model;
 
-/// A call in whose place the body of the function stands.
+/// An inlined call.
 #[derive(Clone, Copy, PartialEq, Eq)]
 pub(crate) struct InlinedCall {
-    /// Where the call stands.
+    /// The source location of the call.
     pub place: SourceLocation,
     /// The number of the called function's name.
     pub origin: usize,
 }
 
-/// An inlined call with the addresses over which it is the one at its level.
+/// An inlined call, with its level and the addresses over which it is the call at that level.
 #[derive(Clone, Copy)]
 struct InlineRecord {
-    /// How many calls are outside of it.
+    /// The number of inlined calls that contain this one.
     level: usize,
     span: Span<InlinedCall>,
 }
@@ -42,11 +42,11 @@ impl Keyed for InlineRecord {
     }
 }
 
-/// The inlined calls of a function, as far as its addresses were gone through.
+/// The inlined calls of a function so far.
 #[derive(Drop)]
 pub(crate) struct InlineRecords {
     alloc: Global,
-    /// By how many calls are outside of them.
+    /// The calls of each level. The level is the number of calls that contain them.
     levels: Vec<AddressSpans<InlinedCall>>,
 }
 
@@ -71,8 +71,8 @@ impl InlineRecords {
         }
     }
 
-    /// Adds the calls over a piece after all others, from outside to inside. A call goes on that stood at its level
-    /// at the address before, if all outside of it go on.
+    /// Adds the calls over a piece, which is after all others; the outermost call is the first. A call continues the
+    /// record of its level if the address before has the same call there and all calls outside it continue, too.
     pub(crate) fn add(&mut self, piece: Piece, calls: &[InlinedCall]) -> Result<(), AllocError>
         requires order { (level : ℕ) → LevelEndsBefore piece.first self.old level }
         ensures answer { OnOk result ((a : ℕ) → piece.first ≤ a → a ≤ piece.last
@@ -88,14 +88,14 @@ impl InlineRecords {
         Ok(())
     }
 
-    // The call at a level at the address before this one.
+    // The call at a level at the address before `address`.
     fn call_before(&self, level: usize, address: u32) -> Option<InlinedCall>
         ensures { result ≡ call_before address self.now level }
     {
         self.levels.get(level)?.content_before(address)
     }
 
-    // Adds the call at a level over a piece, which stands after all others of its level.
+    // Adds the call at a level over a piece, which is after all others of its level.
     fn add_call(
         &mut self,
         level: usize,
@@ -124,7 +124,7 @@ impl InlineRecords {
         }
     }
 
-    // Adds a call inside of all others.
+    // Adds a level with a call inside all others.
     fn push_level(&mut self, piece: Piece, call: InlinedCall) -> Result<(), AllocError>
         ensures { OnOk result (self.new
             ≡ self.old ++ (record { content = call; start = piece.first; last = piece.last } ∷ []) ∷ []) }
@@ -135,7 +135,7 @@ impl InlineRecords {
         Ok(())
     }
 
-    /// Appends the records, by where they begin, and then from outside to inside.
+    /// Appends the records, sorted by start; of equal starts the outermost comes first.
     pub(crate) fn push_records(&self, text: &mut String) -> Result<(), AllocError>
         ensures state { OnOk result (string_bytes text.new ≡ string_bytes text.old ++ inline_lines self.now) }
         ensures order { OnOk result (All Ascend self.now) }

@@ -1,7 +1,7 @@
 //! Breakpad symbol files: the function, the line and the inlined calls at each address, as text.
 //!
-//! [`write_symbol_file`] goes over all addresses at which functions are known, and asks a [`FrameSource`] for the
-//! frames of each. A reader of the file finds at each of them what the source answered there.
+//! [`write_symbol_file`] walks over all addresses of a program, and asks a [`FrameSource`] for their frames. A reader
+//! of the file finds at each address the frames that the source answered there.
 #![tactic(auto)]
 
 mod address_spans;

@@ -1,4 +1,4 @@
-//! The records in front: of which program and which PDB file the others are.
+//! Writes the first records of a symbol file: its PDB file and its program.
 
 ghost use Rattle.std.specs.Prelude.{◌≡◌, ◌++◌, codes, IfOk, OnOk, string_bytes};
 ghost use Rattle.pdb_breakpad.specs.ModuleRecord.{AreModuleRecords, IsMachineText, module_line, program_lines};
@@ -8,18 +8,18 @@ use crate::name_text::{push_line_text, push_name};
 use pdb_identity::{CodeId, DebugId, Machine};
 use std::alloc::{AllocError, Global};
 
-/// Which build a symbol file is of.
+/// The build to which a symbol file belongs.
 #[derive(Debug, Clone, Copy)]
 pub struct ModuleIdentity<'m> {
     pub machine: Option<Machine>,
     pub debug_id: DebugId,
     /// The name of the PDB file, without folders.
     pub pdb_name: &'m str,
-    /// What is known of the program itself.
+    /// The program itself, if it is known.
     pub program: Option<ProgramIdentity<'m>>,
 }
 
-/// Which build of a program, by its own file.
+/// The identity of a program, by its own file.
 #[derive(Debug, Clone, Copy)]
 pub struct ProgramIdentity<'m> {
     pub code_id: CodeId,
@@ -27,7 +27,7 @@ pub struct ProgramIdentity<'m> {
     pub name: &'m str,
 }
 
-/// The text of the records.
+/// The text of these records.
 pub(crate) fn module_records(
     alloc: Global,
     identity: &ModuleIdentity<'_>,
@@ -43,7 +43,7 @@ pub(crate) fn module_records(
     Ok(text)
 }
 
-// The name of a machine, or what stands for one that isn't known.
+// The name of a machine, or `unknown`.
 fn machine_text(alloc: Global, machine: Option<Machine>) -> Result<String, AllocError>
     ensures { IfOk result (λ text. IsMachineText machine (string_bytes text)) }
 {
@@ -53,7 +53,7 @@ fn machine_text(alloc: Global, machine: Option<Machine>) -> Result<String, Alloc
     }
 }
 
-// The code id of a program, or nothing where none is known.
+// The code id of a program; empty if it isn't known.
 fn code_id_text(
     alloc: Global,
     program: &Option<ProgramIdentity<'_>>,

@@ -1,4 +1,4 @@
-//! Names and other texts as words of a record, without line breaks.
+//! Writes names and other texts as words of a record, without line breaks.
 
 ghost use Rattle.std.specs.Prelude.{◌≡◌, ◌++◌, OnOk, string_bytes};
 ghost use Rattle.pdb_breakpad.specs.FunctionTexts.{line_text, name_character, name_line};

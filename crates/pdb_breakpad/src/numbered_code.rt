@@ -1,4 +1,4 @@
-//! What is known of the code at an address, with names by their numbers.
+//! The inlined calls and the source location at an address, with files and names by their numbers.
 
 ghost use Rattle.std.specs.Prelude.{◌≡◌, map, IfOk};
 ghost use Rattle.pdb_breakpad.specs.ShownNames.{frame_text};
@@ -11,24 +11,24 @@ use crate::shown_names::{file_name, function_name};
 use pdb_addr2line::Frame;
 use std::alloc::{AllocError, Global};
 
-/// A place in a source file.
+/// A source location: the number of a file, and a line.
 #[derive(Clone, Copy, PartialEq, Eq)]
 pub(crate) struct SourceLocation {
     pub file: usize,
     pub line: u32,
 }
 
-/// What is known of the code at an address.
+/// The inlined calls and the source location at an address.
 #[derive(Drop)]
 pub(crate) struct NumberedCode {
-    /// The inlined calls, from outside to inside.
+    /// The inlined calls, the outermost first.
     pub calls: Vec<InlinedCall>,
-    /// Where the code comes from, if that is known.
+    /// The location of the innermost frame, if it is known.
     pub place: Option<SourceLocation>,
 }
 
 #[tactic(auto, using(crate::proofs::FunctionRecordLemmas::keeps_calls))]
-/// What is known of the code with these frames, from outside to inside.
+/// The calls and the location of frames, which are ordered from the outermost to the innermost.
 pub(crate) fn number_code(
     alloc: Global,
     numbers: &mut Numbers,
@@ -42,7 +42,7 @@ pub(crate) fn number_code(
     Ok(NumberedCode { calls, place })
 }
 
-// The calls by which frames, from outside to inside, are inlined into one another.
+// The calls by which frames are inlined into one another; the outermost frame is the first.
 fn number_calls(
     alloc: Global,
     numbers: &mut Numbers,
@@ -73,7 +73,7 @@ fn number_call(
     Ok(InlinedCall { place, origin })
 }
 
-// The place of a frame.
+// The location of a frame.
 fn number_place(numbers: &mut Numbers, frame: &Frame<'_>) -> Result<SourceLocation, AllocError>
     ensures answer { IfOk result (λ place. IsPlace numbers.new place (place_of (frame_text frame.now))) }
     ensures state { KeepsAllNames numbers.old numbers.new }
@@ -85,7 +85,7 @@ fn number_place(numbers: &mut Numbers, frame: &Frame<'_>) -> Result<SourceLocati
     })
 }
 
-// The place of the innermost frame, if its file or its line is known.
+// The location of the innermost frame, if its file or its line is known.
 fn number_own_place(
     numbers: &mut Numbers,
     frame: &Frame<'_>,
@@ -99,7 +99,7 @@ fn number_own_place(
     Ok(Some(number_place(numbers, frame)?))
 }
 
-// The place of the innermost of these frames, if its file or its line is known.
+// The location of the innermost of these frames, if its file or its line is known.
 #[tactic(auto, using(crate::proofs::FunctionRecordLemmas::innermost))]
 fn number_innermost_place(
     numbers: &mut Numbers,

@@ -1,10 +1,10 @@
-//! Runs of addresses over which the same is answered.
+//! Pieces: ranges of addresses that all have the same answer.
 
 ghost use Rattle.std.specs.Prelude.{◌≡◌, ◌<◌, ◌≤◌, ◌+◌, length, slice_index};
 ghost use Rattle.std.specs.List.Sorted.{IsStrictlyIncreasing};
 ghost use Rattle.pdb_breakpad.specs.Pieces.{piece_end};
 
-/// Addresses that follow one another.
+/// A range of addresses.
 #[derive(Clone, Copy)]
 pub(crate) struct Piece {
     pub first: u32,
@@ -12,8 +12,7 @@ pub(crate) struct Piece {
     ghost ordered: { first ≤ last },
 }
 
-/// The piece at a position: it begins at the point there, and ends before the next point, or with the last address of
-/// 32 bits.
+/// The piece that begins at the point with this position. It ends before the next point, or at the last 32-bit address.
 pub(crate) fn piece_at(points: &[u32], position: usize) -> Piece
     requires position { position < length points.now }
     requires ascend { IsStrictlyIncreasing points.now }

@@ -1,4 +1,4 @@
-//! The numbers of files and of inlined functions' names, in the order in which they are met.
+//! Gives numbers to files and to the names of inlined functions, in the order of their first use.
 
 ghost use Rattle.std.specs.Prelude.{◌≡◌, ◌++◌, ℕ, List, [], ◌∷◌, Some, IfOk, IfSome, OnOk, OnErr, length, map, slice_get};
 ghost use Rattle.std.specs.Prelude.{string_bytes, if◌then◌else◌};
@@ -13,7 +13,7 @@ use std::alloc::{AllocError, Global};
 use std::collections::BTreeMap;
 use std::marker::Model;
 
-/// What names are of.
+/// What the names belong to.
 #[derive(Clone, Copy)]
 pub(crate) enum NameKind {
     File,
@@ -21,7 +21,7 @@ pub(crate) enum NameKind {
 }
 
 impl NameKind {
-    /// What the record of such a name begins with.
+    /// The beginning of the record of such a name.
     fn keyword(self) -> &'static str
         ensures { result.now ≡ keyword self }
     {
@@ -32,21 +32,21 @@ impl NameKind {
     }
 }
 
-/// How many numbers of names that were asked for lately are kept.
+/// How many slots there are for numbers of recent names.
 const SLOTS: usize = 1 << 12;
 
 /// Names with their numbers.
 #[derive(Drop)]
 pub(crate) struct NumberedNames {
     numbers: BTreeMap<String, usize>,
-    /// By their numbers.
+    /// The names, by their numbers.
     names: Vec<String>,
-    /// The numbers of names that were asked for lately, each in the slot of its name. Another name may have the same
-    /// slot, so a number is right only if it is that of the name that is asked for.
+    /// The numbers of recent names, each in the slot of its name. Several names may share a slot, so the name of a
+    /// number found there must be compared.
     recent: Vec<usize>,
 }
 
-// Clauses see the names, by their numbers.
+// Contracts see the names, by their numbers.
 impl Model for NumberedNames {
     ghost use Rattle.std.specs.Prelude.{ℕ, List, map, string_bytes};
     ghost use Rattle.pdb_breakpad.specs.RecordNumbers.{KnowsNumbers};
@@ -58,7 +58,7 @@ impl Model for NumberedNames {
     ghost invariant = { λ n. KnowsNumbers n.numbers (map string_bytes n.names.items) };
 }
 
-// The number under a name.
+// The number of a name in a map.
 fn number_in(numbers: &BTreeMap<String, usize>, name: &str) -> Option<usize>
     ensures { result ≡ get_by_text numbers.now name.now }
 {
@@ -68,7 +68,7 @@ fn number_in(numbers: &BTreeMap<String, usize>, name: &str) -> Option<usize>
     }
 }
 
-// Puts a number under a name.
+// Stores the number of a name in a map.
 fn put(numbers: &mut BTreeMap<String, usize>, name: String, number: usize) -> Result<(), AllocError>
     ensures state { OnOk result ((asked : List ℕ) → get_by_text numbers.new asked
         ≡ (if bytes_eq (string_bytes name) asked then Some number else get_by_text numbers.old asked)) }
@@ -79,7 +79,7 @@ fn put(numbers: &mut BTreeMap<String, usize>, name: String, number: usize) -> Re
     Ok(())
 }
 
-// Adds a copy of a name after all others, and answers its position.
+// Appends a copy of a name, and returns its position.
 fn push_copy(names: &mut Vec<String>, name: &str) -> Result<usize, AllocError>
     ensures answer { IfOk result (λ position. position ≡ length (map string_bytes names.old.items)) }
     ensures state { OnOk result (map string_bytes names.new.items ≡ map string_bytes names.old.items ++ name.now ∷ []) }
@@ -92,7 +92,7 @@ fn push_copy(names: &mut Vec<String>, name: &str) -> Result<usize, AllocError>
     Ok(position)
 }
 
-// The slot of a name, by its length and its last characters.
+// The slot of a name, by its length and its last 32 bytes.
 fn slot_of(name: &str) -> usize {
     let bytes = name.as_bytes();
     let mut hash = bytes.len();
@@ -113,7 +113,7 @@ impl NumberedNames {
         }
     }
 
-    /// The number of a name: the one that it has, or the next.
+    /// The number of a name. A new name gets the next number.
     pub(crate) fn number_of(&mut self, name: &str) -> Result<usize, AllocError>
         ensures answer { IfOk result (λ number. slice_get self.new number ≡ Some name.now) }
         ensures state { KeepsNames self.old self.new }
@@ -130,7 +130,7 @@ impl NumberedNames {
         Ok(number)
     }
 
-    // The number in a slot, if it is that of this name.
+    // The number in a slot, if it belongs to this name.
     fn recent_number(&self, slot: usize, name: &str) -> Option<usize>
         ensures { IfSome result (λ number. slice_get self.now number ≡ Some name.now) }
     {
@@ -143,7 +143,7 @@ impl NumberedNames {
         }
     }
 
-    // Puts a number into a slot.
+    // Stores a number in a slot.
     fn keep_recent(&mut self, slot: usize, number: usize) -> Result<(), AllocError>
         ensures unchanged { self.new ≡ self.old }
     {
@@ -168,14 +168,14 @@ impl NumberedNames {
         Ok(number)
     }
 
-    /// How many names have numbers.
+    /// The number of names.
     pub(crate) fn len(&self) -> usize
         ensures { result ≡ length self.now }
     {
         self.names.len()
     }
 
-    /// Appends a record of each name, by their numbers.
+    /// Appends a record of each name, in the order of their numbers.
     pub(crate) fn push_records(&self, text: &mut String, kind: NameKind) -> Result<(), AllocError>
         ensures { OnOk result (string_bytes text.new
             ≡ string_bytes text.old ++ name_records (keyword kind) 0 self.now) }
@@ -219,7 +219,8 @@ impl Numbers {
         }
     }
 
-    /// Nothing is done: a list has no more names than its type can count, so their numbers fit that type.
+    /// Does nothing. It only shows to the prover that the numbers fit their type, because a list has at most as many
+    /// names as the type can count.
     pub(crate) fn fit(&self)
         ensures { FitNumbers self.now }
     {

@@ -1,17 +1,17 @@
-//! What a symbol file says of a frame: names, with a word for one that isn't known.
+//! The names that a symbol file has for a frame, with placeholders for unknown ones.
 
 ghost use Rattle.std.specs.Prelude.{◌≡◌, true, map};
 ghost use Rattle.pdb_breakpad.specs.ShownNames.{file_text, frame_text, function_text, text_or};
 
 use pdb_addr2line::Frame;
 
-/// What stands for a function's name that isn't known.
+/// The placeholder for an unknown function name.
 const NO_FUNCTION: &str = "<name omitted>";
 
-/// What stands for a file that isn't known.
+/// The placeholder for an unknown file.
 const NO_FILE: &str = "??";
 
-/// The name of a frame's function, or what stands for it.
+/// The name of a frame's function, or its placeholder.
 pub(crate) fn function_name<'f>(frame: &'f Frame<'_>) -> &'f str
     ensures { result.now ≡ function_text frame.now }
 {
@@ -21,7 +21,7 @@ pub(crate) fn function_name<'f>(frame: &'f Frame<'_>) -> &'f str
     }
 }
 
-/// The file of a frame, or what stands for it.
+/// The file of a frame, or its placeholder.
 pub(crate) fn file_name<'f>(frame: &'f Frame<'_>) -> &'f str
     ensures { result.now ≡ file_text frame.now }
 {
@@ -31,14 +31,14 @@ pub(crate) fn file_name<'f>(frame: &'f Frame<'_>) -> &'f str
     }
 }
 
-// A name, or another where it has no characters.
+// A name, or another one if it is empty.
 fn named<'n>(name: &'n str, other: &'n str) -> &'n str
     ensures { result.now ≡ text_or other.now name.now }
 {
     if name.is_empty() { other } else { name }
 }
 
-// Whether a symbol file says the same of two frames.
+// Whether a symbol file has the same text for two frames.
 fn is_equal(frame: &Frame<'_>, other: &Frame<'_>) -> bool
     ensures { result ≡ true → frame_text frame.now ≡ frame_text other.now }
 {
@@ -48,7 +48,7 @@ fn is_equal(frame: &Frame<'_>, other: &Frame<'_>) -> bool
         && function_name(frame) == function_name(other)
 }
 
-/// Whether a symbol file says the same of these frames.
+/// Whether a symbol file has the same text for two lists of frames.
 pub(crate) fn are_equal(frames: &[Frame<'_>], others: &[Frame<'_>]) -> bool
     ensures { result ≡ true → map frame_text frames.now ≡ map frame_text others.now }
 {

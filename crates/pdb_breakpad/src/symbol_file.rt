@@ -1,4 +1,4 @@
-//! Writes a symbol file whole: what stands in front, files and names by their numbers, functions.
+//! Writes a complete symbol file: the first records, the files and names with their numbers, and the functions.
 
 ghost use Rattle.std.specs.Prelude.{◌≡◌, ◌++◌, ℕ, List, [], Some, IfOk, OnOk, string_bytes};
 ghost use Rattle.std.specs.Io.KnownBytes.{Appends};
@@ -17,17 +17,17 @@ use pdb_tables::Segments;
 use std::alloc::{AllocError, Global};
 use std::io;
 
-/// Writes the symbol file of a program to a writer, and flushes the writer. `parameters` has by addresses how many
-/// bytes of parameters the functions there take from the stack; those without a value have the size 0.
+/// Writes the symbol file of a program to a writer, and flushes the writer. `parameters` says by address how many bytes
+/// of parameters the function there takes from the stack; the default is 0.
 ///
-/// The program is gone over once, piece by piece. Files and names get their numbers as they are met, and the records of
-/// functions are kept as text, because the file has the names before the functions. So what is held is the text, where
-/// the pieces begin, the numbers, and what the source caches of a share of the functions.
+/// The program's pieces are walked over once. Files and names get their numbers when they are first used. The file has
+/// them before the functions, so the records of functions are kept as text until the end. Memory is therefore needed
+/// for this text, the pieces' starts, the numbers, and what the source caches for a share of the functions.
 ///
 /// # Errors
 ///
-/// Answers the source's first error, that memory ran out, or that the writer refused a part of the text, of which the
-/// parts before it are written.
+/// The source's first error; that memory ran out; or that the writer refused a part of the text, after the parts before
+/// it were written.
 pub fn write_symbol_file<'a, S: FrameSource<'a>, W: io::Write>(
     alloc: Global,
     out: &mut W,
@@ -48,7 +48,7 @@ pub fn write_symbol_file<'a, S: FrameSource<'a>, W: io::Write>(
     Ok(())
 }
 
-// The text of all functions. Their files and names get numbers in the order in which they are met.
+// The text of all functions. Their files and names get numbers in the order of their first use.
 fn functions_text<'a, S: FrameSource<'a>>(
     alloc: Global,
     source: &mut S,
@@ -65,7 +65,7 @@ fn functions_text<'a, S: FrameSource<'a>>(
     Ok(text)
 }
 
-// Writes what stands before the functions.
+// Writes the records before the functions.
 fn write_front<W: io::Write>(
     alloc: Global,
     out: &mut W,
@@ -80,7 +80,7 @@ fn write_front<W: io::Write>(
     Ok(())
 }
 
-// What stands before the functions.
+// The text of the records before the functions.
 fn front_text(
     alloc: Global,
     identity: &ModuleIdentity<'_>,

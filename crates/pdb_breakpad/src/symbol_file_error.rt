@@ -1,4 +1,4 @@
-//! Why a symbol file could not be written: no answer, no memory, a writer that refused.
+//! `SymbolFileError`: why a symbol file could not be written.
 
 use pdb_addr2line::Error;
 use pdb_session::QuestionError;
@@ -8,16 +8,16 @@ use std::io;
 /// Why a symbol file could not be written.
 #[derive(Debug, Drop, thiserror::Error)]
 pub enum SymbolFileError {
-    /// The source of the frames refused an answer, or there was no memory.
+    /// The source of the frames returned an error, or memory ran out.
     #[error("{0}")]
     Refused(Error),
-    /// Something that an answer depends on was not read of the file.
+    /// An answer depends on records that weren't read.
     #[error("not all of the file was read")]
     NotRead,
-    /// The writer refused what was written.
+    /// The writer refused a part of the text.
     #[error("cannot write")]
     CannotWrite,
-    /// Nobody reads what is written any more.
+    /// The reader of the output is gone.
     #[error("nobody reads")]
     ClosedPipe,
 }

@@ -1,4 +1,4 @@
--- What a call that is asked for frames leaves of the answer.
+-- What a call for frames writes into the caller's buffers.
 use Rattle.std.specs.Prelude.{◌≡◌, ℕ, ℤ, pos, List, Option, None, Result, Ok, Err, if◌then◌else◌}
 use Rattle.pdb_records.specs.Records.{Records}
 use Rattle.pdb_addr2line.specs.ContextInputs.{ContextState}
@@ -13,7 +13,8 @@ use Rattle.pdb_c.specs.CallError.{code}
 use Rattle.pdb_c.specs.ReportTexts.{Agrees}
 use Rattle.pdb_c.specs.Questions.{answer_of_handle, LeavesHandle}
 
--- what a call leaves of an answer or of a refusal: the rows and the texts afterwards, the sizes, and what it answers
+-- the buffers, the sizes and the return value after a call, by its answer or refusal. Rows and texts change only if
+-- both fit
 abbrev pub LeavesFrames : Result Shown CallError → (rows rows' : List FrameRow) → (texts texts' : List ℕ)
     → AnswerSizes → ℤ → Type 0
 LeavesFrames (Ok found) rows rows' texts texts' size answer =
@@ -24,12 +25,12 @@ LeavesFrames (Ok found) rows rows' texts texts' size answer =
 LeavesFrames (Err refusal) rows rows' texts texts' size answer =
     (rows' ≡ rows) × (texts' ≡ texts) × (size ≡ sizes (shown None)) × (answer ≡ code refusal)
 
--- what was found, as it is shown
+-- the model of what was found
 abbrev pub shown_result : Result FoundFrames CallError → Result Shown CallError
 shown_result (Ok found) = Ok (shown_view found)
 shown_result (Err refusal) = Err refusal
 
--- how a question for frames ends: as of what is asked of what the handle holds, unless memory ran out
+-- the end of a call for frames: it has the defined answer of the handle's context, except after an allocation failure
 pub record EndsWithFrames (held held' : Option (ContextState Records)) (asked : Question)
     (rows rows' : List FrameRow) (texts texts' : List ℕ) (size : AnswerSizes) (answer : ℤ) : Type 0 where
   pub found : Result Shown CallError

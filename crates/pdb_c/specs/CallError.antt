@@ -1,4 +1,4 @@
--- Why a call writes no text, and the numbers that stand for it.
+-- Why a call writes no text, and the return values for the reasons.
 use Rattle.std.specs.Prelude.{ℤ, pos, neg_ℤ}
 use Rattle.pdb_errors.specs.declared.error.Error.{Error}
 use Rattle.pdb_errors.specs.declared.error.Error.TheVariants as error
@@ -25,7 +25,7 @@ use Rattle.pdb_session.specs.declared.session_error.SessionError.TheVariants as 
 use Rattle.pdb_container.specs.declared.pdb_file_error.PdbFileError as told
 use Rattle.pdb_container.specs.declared.pdb_file_error.PdbFileError.TheVariants as file
 
--- the number that a call answers for a refusal
+-- the return value for a refusal
 abbrev pub code : CallError → ℤ
 code NoAddresses = neg_ℤ (pos 2)
 code NotJson = neg_ℤ (pos 3)
@@ -50,34 +50,35 @@ code Rearranged = neg_ℤ (pos 21)
 code BrokenStream = neg_ℤ (pos 22)
 code NoDebugId = neg_ℤ (pos 23)
 
--- what a fault in a records file is answered as
+-- the refusal for a fault in a records file
 abbrev pub refusal_of : Fault → CallError
 refusal_of not_json = NotJson
 refusal_of (module_files wanted given) = ModuleFiles
 refusal_of other = NoRecords
 
--- what a reader's fault is answered as
+-- the refusal for a fault of the reader of records files
 abbrev pub refusal_of_fault : RecordFault → CallError
 refusal_of_fault fault.NotJson = NotJson
 refusal_of_fault (fault.ModuleFiles wanted given) = ModuleFiles
 refusal_of_fault fault.OutOfMemory = OutOfMemory
 refusal_of_fault other = NoRecords
 
--- this error, but for out of memory, which is answered as itself
+-- this refusal, except that an allocation failure stays one
 abbrev pub refusal_or_memory : CallError → Error → CallError
 refusal_or_memory refusal error.OutOfMemory = OutOfMemory
 refusal_or_memory refusal other = refusal
 
--- what an error is answered as where the records have no context
+-- the refusal for records that have no context
 abbrev pub refusal_of_records : Error → CallError
 refusal_of_records error = refusal_or_memory RecordsRefused error
 
--- what is answered for a report that ends early, whose text is gathered in memory
+-- the refusal for a report that ended early; its text is gathered in memory, so a refused write means an allocation
+-- failure
 abbrev pub refusal_of_report : ReportFault → CallError
 refusal_of_report (Lookup error) = refusal_or_memory AddressRefused error
 refusal_of_report Write = OutOfMemory
 
--- what is answered where bytes can't be read as a PDB file
+-- the refusal for bytes that can't be read as a PDB file
 abbrev pub refusal_of_container : ContainerError → CallError
 refusal_of_container container.NotAPdbFile = NotAPdbFile
 refusal_of_container container.Program = Program
@@ -88,7 +89,7 @@ refusal_of_container container.CutShort = CutShort
 refusal_of_container container.StreamsTooLong = StreamsTooLong
 refusal_of_container container.OutOfMemory = OutOfMemory
 
--- what is answered where nothing can be answered over the records of a PDB file
+-- the refusal for a PDB file whose records can't be used
 abbrev pub refusal_of_file : told.PdbFileError → CallError
 refusal_of_file file.OfObjects = OfObjects
 refusal_of_file (file.OldTypes version) = OldTypes

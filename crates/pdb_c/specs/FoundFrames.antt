@@ -1,4 +1,4 @@
--- What a question for frames or for a function finds, as it is shown to C.
+-- The answer to a question for frames or for a function, in the form for C.
 use Rattle.std.specs.Prelude.{ℕ, List, [], ◌∷◌, ◌++◌, Option, Some, None, length, drop, nat_le, Bool, true, false, ◌&&◌}
 use Rattle.std.specs.Prelude.{unwrap_or}
 use Rattle.std.specs.Option.{option_map_or}
@@ -9,14 +9,14 @@ use Rattle.pdb_c.specs.declared.found_frames.AnswerSizes.{AnswerSizes}
 use Rattle.pdb_c.specs.declared.found_frames.FoundFrames.{FoundFrames}
 use Rattle.pdb_c.specs.FrameRows.{rows_of, texts_of}
 
--- what is shown of a function: its addresses, a row for each frame, and the texts that rows lead to
+-- the form of a function for C: its addresses, a row for each frame, and the texts of the rows
 pub record Shown : Type 0 where
   pub start : ℕ
   pub end : Option ℕ
   pub rows : List FrameRow
   pub texts : List ℕ
 
--- what is shown of the frames over an address; nothing where no function lies there
+-- the form of the frames at an address; empty if there is no function
 abbrev pub shown : Option FramesInfo → Shown
 shown None = record { start = 0; end = None; rows = []; texts = [] }
 shown (Some found) = record {
@@ -26,7 +26,7 @@ shown (Some found) = record {
   texts = texts_of found.frames;
 }
 
--- the same, as the code has it
+-- the model of `FoundFrames`
 abbrev pub shown_view : FoundFrames → Shown
 shown_view found = record {
   start = found.start;
@@ -35,7 +35,7 @@ shown_view found = record {
   texts = found.texts.items;
 }
 
--- the text of a report, as it is shown: no function and no rows
+-- the form of a report's text, without function and rows
 abbrev pub shown_text : List ℕ → Shown
 shown_text text = record { start = 0; end = None; rows = []; texts = text }
 
@@ -44,11 +44,11 @@ abbrev pub flag_number : Bool → ℕ
 flag_number true = 1
 flag_number false = 0
 
--- a flag, as it is shown in place of an address: no function and no rows
+-- a flag in the form for C: a number in place of an address, with no function and no rows
 abbrev pub shown_flag : Bool → Shown
 shown_flag flag = record { start = flag_number flag; end = None; rows = []; texts = [] }
 
--- a function as frames: itself alone, with no file and no line
+-- a function as its only frame, with no file and no line
 abbrev pub frames_of_function : FunctionInfo → FramesInfo
 frames_of_function f = record {
   start_rva = f.start_rva;
@@ -56,20 +56,20 @@ frames_of_function f = record {
   frames = record { function = f.name; file = None; line = None } ∷ [];
 }
 
--- a function of which nothing is known but where it starts
+-- a function of which only the start is known
 abbrev pub start_alone : ℕ → FunctionInfo
 start_alone start = record { start_rva = start; end_rva = None; name = None }
 
--- a list with another put at its start
+-- a list with other items at its start; its later elements stay
 abbrev pub put_at_start : {A : Type 0} → List A → List A → List A
 put_at_start items room = items ++ drop (length items) room
 
--- whether rows and texts fit buffers
+-- whether the rows and the texts fit into buffers
 abbrev pub fits : {A : Type 0} → Shown → List A → List ℕ → Bool
 fits found rows texts =
     nat_le (length found.rows) (length rows) && nat_le (length found.texts) (length texts)
 
--- the size of an answer, and its function's addresses: whether it is known where the function ends is 1 or 0
+-- the size of an answer, and the addresses of its function. A flag tells whether the function's end is known
 abbrev pub sizes : Shown → AnswerSizes
 sizes found = record {
   rows = length found.rows;

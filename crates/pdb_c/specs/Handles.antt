@@ -1,4 +1,4 @@
--- What a handle owns.
+-- The memory that a handle owns.
 use Rattle.std.specs.Prelude.{ℕ, [], ◌∷◌, Option, None, Some}
 use Rattle.std.specs.declared.alloc.Global.{Global}
 use Rattle.std.specs.contracts.impls.GlobalAllocator.TheImpl.{ghosts}
@@ -17,7 +17,7 @@ use Rattle.pdb_addr2line.specs.contracts.context_data.ContextPdbData.{the_row as
 use Rattle.pdb_addr2line.specs.contracts.context_data.ContextPdbDataModuleProvider.TheImpl.{ghosts as provider}
 use Rattle.pdb_addr2line.specs.contracts.context.Context.{the_row as context_row}
 
--- the type of the records that are held
+-- the type of the records that a handle owns
 abbrev pub HeldRecords : RattleType
 HeldRecords = records_row static_lft
 
@@ -25,7 +25,7 @@ HeldRecords = records_row static_lft
 abbrev pub HeldContext : ℕ → RattleType
 HeldContext lifetime = context_row (record { mir = named 0; lft = lifetime ∷ [] }) HeldRecords provider
 
--- records at a pointer that are lent for a lifetime, and the right to free their block
+-- records at a pointer, borrowed for a lifetime, and the right to free their block
 abbrev pub lends_records : Global → Ptr → ℕ → Records → Fml
 lends_records alloc at lifetime records =
     fsep (flent (lifetime ∷ []) (lies_at HeldRecords full_share at records))
@@ -35,13 +35,13 @@ lends_records alloc at lifetime records =
 abbrev pub owns_context : Global → Ptr → ℕ → ContextState Records → Fml
 owns_context alloc at lifetime context = box_owns (ghosts.dealloc_token alloc) (HeldContext lifetime) at context
 
--- a lifetime that has not ended, records that are lent for it, and a context that borrows from them
+-- a lifetime that hasn't ended, records that are borrowed for it, and a context that borrows from them
 abbrev pub holds_for : Global → Ptr → Ptr → ContextState Records → ℕ × Records → Fml
 holds_for alloc records_at context_at context held =
     fsep (flft (held.0 ∷ []) full_share)
     (fsep (lends_records alloc records_at held.0 held.1) (owns_context alloc context_at held.0 context))
 
--- a handle's second pointer is null where nothing is held, and else the two lead to records and a context over them
+-- the second pointer of a closed handle is null; those of an open one point to records and to a context over them
 abbrev pub holds : Global → Ptr → Ptr → Option (ContextState Records) → Fml
 holds alloc records_at context_at None = feq Ptr context_at null_ptr
 holds alloc records_at context_at (Some context) =

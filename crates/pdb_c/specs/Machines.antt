@@ -10,7 +10,7 @@ use Rattle.pdb_c.specs.declared.call_error.CallError.TheVariants.{NoDebugId}
 use Rattle.pdb_c.specs.CallError.{code, refusal_of_container}
 use Rattle.pdb_c.specs.ReportTexts.{Agrees, with_refusal}
 
--- the number of the processor in a file's identity: 0 where that says none, and refused where there is no identity
+-- the number of the processor in a file's identity: 0 if the identity has none, and a refusal if there is no identity
 abbrev pub number_in : Option PdbIdentity → Result ℕ CallError
 number_in None = Err NoDebugId
 number_in (Some found) = Ok (option_map_or (λ machine. machine.0) found.machine 0)
@@ -19,12 +19,12 @@ number_in (Some found) = Ok (option_map_or (λ machine. machine.0) found.machine
 abbrev pub machine_number : List ℕ → Result ℕ CallError
 machine_number bytes = and_then (with_refusal refusal_of_container (of_file identity bytes)) number_in
 
--- a number, or that of a refusal
+-- a number, or the return value for a refusal
 abbrev pub number_or_code : Result ℕ CallError → ℤ
 number_or_code (Ok number) = pos number
 number_or_code (Err refusal) = code refusal
 
--- how a call ends that is asked for a number: as of what is asked, unless memory ran out
+-- the end of a call for a number: it has the defined number or refusal, except after an allocation failure
 pub record EndsWithNumber (asked : Result ℕ CallError) (answer : ℤ) : Type 0 where
   pub found : Result ℕ CallError
   pub agrees : Agrees (λ number. number) found asked

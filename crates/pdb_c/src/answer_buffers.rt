@@ -1,4 +1,4 @@
-//! Asks a context, and writes what is found into the caller's buffers.
+//! Looks up addresses in a context, and writes the results into the caller's buffers.
 ghost use Rattle.std.specs.Prelude.{◌≡◌, Ok, OnOk, MatchResult, option_map};
 ghost use Rattle.pdb_function_info.specs.Function.{function_view};
 ghost use Rattle.pdb_addr2line.specs.Calls.{after_frames};
@@ -23,8 +23,7 @@ use pdb_addr2line::{Context, ContextPdbData, Error, Function, FunctionFrames};
 use pdb_report_lib::Command;
 use std::alloc::Global;
 
-// The frames over an address, whose function goes by its symbol's name where it has no other. What the context met broken
-// on the way is broken.
+// The frames at an address. A function without another name gets its symbol's name.
 fn look_up_frames<'a>(
     context: &mut Context<'a, ContextPdbData<'static>>,
     address: u32,
@@ -40,8 +39,7 @@ fn look_up_frames<'a>(
     }
 }
 
-// The function over an address, by its symbol's name where it has no other. What the context met broken on the way is
-// broken.
+// The function at an address. A function without another name gets its symbol's name.
 fn look_up(
     context: &mut Context<'_, ContextPdbData<'static>>,
     address: u32,
@@ -58,7 +56,7 @@ fn look_up(
     }
 }
 
-// What a context finds of the frames over an address.
+// The frames that a context finds at an address, as rows.
 fn frames_in(
     alloc: Global,
     context: &mut Context<'_, ContextPdbData<'static>>,
@@ -71,7 +69,7 @@ fn frames_in(
     Ok(found_frames(alloc, &found)?)
 }
 
-// What a context finds of the function over an address.
+// The function that a context finds at an address, as a row.
 fn function_in(
     alloc: Global,
     context: &mut Context<'_, ContextPdbData<'static>>,
@@ -84,7 +82,7 @@ fn function_in(
     Ok(function_match(alloc, found)?)
 }
 
-// Where the next function starts that a context knows, as the frame of a function of which nothing else is known.
+// The next start of a function from an address on, as a row without name, file and line.
 fn next_start_in(
     alloc: Global,
     context: &mut Context<'_, ContextPdbData<'static>>,
@@ -99,7 +97,7 @@ fn next_start_in(
     Ok(function_match(alloc, function_from(start))?)
 }
 
-// The text of a report of a context, which has to be of at least one address.
+// The text of a report over a context. A report of no address is refused.
 fn report_asked(
     alloc: Global,
     context: &mut Context<'_, ContextPdbData<'static>>,
@@ -135,7 +133,7 @@ fn is_flagged(flags: &[u8], module_index: usize) -> bool
     }
 }
 
-// What a context answers to a question.
+// The answer of a context to a question.
 pub(crate) fn answer_in(
     alloc: Global,
     context: &mut Context<'_, ContextPdbData<'static>>,
@@ -159,7 +157,7 @@ pub(crate) fn answer_in(
     }
 }
 
-// Writes what is found to the start of the caller's buffers where it fits there, and says how large it is.
+// Writes rows and texts to the start of the caller's buffers if both fit, and sets `size` to their sizes.
 fn write_found(
     found: &FoundFrames,
     rows: &mut [FrameRow],
@@ -177,7 +175,7 @@ fn write_found(
     0
 }
 
-// Writes what a call found to the caller's buffers, and answers 0, or the refusal's number.
+// Writes the result of a call to the caller's buffers. Returns 0, or the number of the error.
 pub(crate) fn answer_with_frames(
     found: Result<FoundFrames, CallError>,
     rows: &mut [FrameRow],

@@ -1,11 +1,11 @@
-//! Writes a text into the caller's buffer, or answers the number of the refusal.
+//! Writes a text into the caller's buffer, or returns the number of an error.
 
 ghost use Rattle.std.specs.Prelude.{Ok};
 ghost use Rattle.pdb_c.specs.Buffers.{Answers, gathered};
 
 use crate::call_error::CallError;
 
-// Writes a text to the start of the caller's buffer where it fits there, says its length, and answers it.
+// Writes a text to the start of the caller's buffer if it fits. Sets `wanted` to its length, and returns that.
 fn write_text(text: &[u8], buffer: &mut [u8], wanted: &mut usize) -> i64
     ensures { Answers (Ok text.now) buffer.old buffer.new wanted.new result }
 {
@@ -18,7 +18,7 @@ fn write_text(text: &[u8], buffer: &mut [u8], wanted: &mut usize) -> i64
     length as i64
 }
 
-// Writes what a call found to the caller's buffer, and answers the text's length, or the refusal's number.
+// Writes the result of a call to the caller's buffer. Returns the text's length, or the number of the error.
 pub(crate) fn answer(
     found: Result<Vec<u8>, CallError>,
     buffer: &mut [u8],

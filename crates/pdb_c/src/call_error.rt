@@ -17,13 +17,13 @@ use std::alloc::AllocError;
 pub enum CallError {
     /// No addresses were given.
     NoAddresses,
-    /// The bytes are no JSON text.
+    /// The bytes aren't JSON.
     NotJson,
-    /// The JSON text holds no records: a value is absent, of another sort, or out of range.
+    /// The JSON text isn't a valid records file: a value is missing, of the wrong kind, or out of range.
     NoRecords,
-    /// The records file names another number of module files than there are contents of.
+    /// The number of module files that were passed isn't the number that the records file names.
     ModuleFiles,
-    /// The records are refused, as where two modules claim the same bytes.
+    /// The records are refused, for example because two modules claim the same bytes.
     RecordsRefused,
     /// The records of an address's module are refused.
     AddressRefused,
@@ -33,11 +33,11 @@ pub enum CallError {
     BufferTooSmall,
     /// The handle is closed.
     Closed,
-    /// The bytes are no PDB file.
+    /// The bytes aren't a PDB file.
     NotAPdbFile,
     /// The bytes are a program or a library, not its PDB file.
     Program,
-    /// The bytes are the debugging records of a program for .NET.
+    /// The bytes are the debug records of a .NET program.
     PortablePdb,
     /// The bytes are a compressed file.
     Compressed,
@@ -45,24 +45,25 @@ pub enum CallError {
     OldPdbFile,
     /// The bytes end before the file's directory of streams does.
     CutShort,
-    /// The streams of the PDB file are longer than it together.
+    /// All streams together are longer than the PDB file.
     StreamsTooLong,
-    /// The PDB file is a compiler's, of objects and not of a program.
+    /// The PDB file is one that a compiler writes for its object files, not a linker for a program.
     OfObjects,
-    /// The types of the PDB file have a form from before 2005.
+    /// The types of the PDB file have a format from before 2005.
     OldTypes,
-    /// The PDB file was stripped of what says where the sections are loaded.
+    /// The PDB file has no section headers, so it isn't known where sections are loaded.
     NoSectionHeaders,
-    /// Addresses were rearranged after linking.
+    /// Addresses were rearranged after linking (OMAP).
     Rearranged,
-    /// A stream of the PDB file that nothing can be answered without is broken.
+    /// A stream of the PDB file is broken without which nothing can be answered.
     BrokenStream,
-    /// The PDB file doesn't say which build it is of.
+    /// The PDB file has no debug id.
     NoDebugId,
 }
 
 impl CallError {
-    // The number that a call answers for it. The header has -1 for null pointers, which no call here is given.
+    // The number that a call returns for this error. The header uses -1 for null pointers, which never reach these
+    // calls.
     pub(crate) fn code(self) -> i64
         ensures { result ≡ code self }
     {
@@ -93,7 +94,7 @@ impl CallError {
     }
 }
 
-// What a call answers where it had no memory for what it makes itself.
+// The error of a call that could not allocate its result.
 impl From<AllocError> for CallError {
     ghost from_gives = { λ _ refusal. refusal ≡ out_of_memory };
 
@@ -105,7 +106,7 @@ impl From<AllocError> for CallError {
 impl From<Error> for CallError {
     ghost from_gives = { λ error refusal. refusal ≡ refusal_of_records error };
 
-    /// What a call answers where its records have no context.
+    /// The error of a call over whose records no context can be made.
     fn from(error: Error) -> CallError {
         match error {
             Error::OutOfMemory => CallError::OutOfMemory,
@@ -130,8 +131,8 @@ impl From<RecordFault> for CallError {
 impl From<ReportFault> for CallError {
     ghost from_gives = { λ fault refusal. refusal ≡ refusal_of_report fault };
 
-    /// What a call answers where a report ends early. The text is gathered in memory, so a refused piece is one that
-    /// there was no memory for.
+    /// The error of a call whose report ends early. The text is collected in memory, so a refused write means that
+    /// memory ran out.
     fn from(fault: ReportFault) -> CallError {
         match fault {
             ReportFault::Lookup(Error::OutOfMemory) => CallError::OutOfMemory,
@@ -144,7 +145,7 @@ impl From<ReportFault> for CallError {
 impl From<ContainerError> for CallError {
     ghost from_gives = { λ fault refusal. refusal ≡ refusal_of_container fault };
 
-    /// What a call answers where the bytes can't be read as a PDB file.
+    /// The error of a call whose bytes can't be read as a PDB file.
     fn from(fault: ContainerError) -> CallError {
         match fault {
             ContainerError::NotAPdbFile => CallError::NotAPdbFile,
@@ -162,7 +163,7 @@ impl From<ContainerError> for CallError {
 impl From<pdb_container::PdbFileError> for CallError {
     ghost from_gives = { λ why refusal. refusal ≡ refusal_of_file why };
 
-    /// What a call answers where nothing can be answered over the records of a PDB file.
+    /// The error of a call if nothing can be answered over the records of a PDB file.
     fn from(why: pdb_container::PdbFileError) -> CallError {
         match why {
             pdb_container::PdbFileError::OfObjects => CallError::OfObjects,

@@ -1,4 +1,4 @@
-//! Contexts over records that a handle owns, in memory of their own.
+//! Makes and frees contexts over records that a handle owns.
 ghost use Rattle.std.specs.Prelude.{◌≡◌};
 ghost use Rattle.pdb_c.specs.ReportTexts.{Agrees};
 ghost use Rattle.pdb_c.specs.Openings.{context_over};
@@ -8,7 +8,7 @@ use crate::handle::loose::Loose;
 use pdb_addr2line::{Context, ContextPdbData};
 use std::alloc::Global;
 
-// A context over records, of which no part has failed.
+// Makes a context over records, in its own allocation. No part has failed yet.
 pub(crate) fn context_over<'a>(
     alloc: Global,
     records: &'a ContextPdbData<'static>,
@@ -22,12 +22,12 @@ pub(crate) fn context_over<'a>(
     }
 }
 
-// Gives a context back.
+// Frees a context.
 pub(crate) fn give_back(context: Loose<Context<'_, ContextPdbData<'static>>, Global>) {
     drop(context.into_box());
 }
 
-// Gives records back that have no context, and answers why.
+// Frees records over which no context can be made, and returns the error.
 pub(crate) fn refuse(
     records: Loose<ContextPdbData<'static>, Global>,
     refusal: CallError,

@@ -1,4 +1,4 @@
-//! What a question for frames or for a function finds, as rows and texts in memory.
+//! Results of questions for frames or functions: rows and texts in memory.
 ghost use Rattle.std.specs.Prelude.{◌≡◌, None, Some, option_map, IfOk};
 ghost use Rattle.pdb_function_info.specs.Function.{function_view};
 ghost use Rattle.pdb_c.specs.FoundFrames.{shown, shown_view, shown_text, frames_of_function, sizes, start_alone};
@@ -9,14 +9,14 @@ use pdb_addr2line::{Frame, Function, FunctionFrames};
 use pdb_report_lib::Command;
 use std::alloc::{AllocError, Global};
 
-/// What a context is asked.
+/// A question to a context.
 #[derive(Clone, Copy)]
 pub(crate) enum Question<'q> {
-    /// The functions in whose code an address lies, from inside to outside.
+    /// The frames at an address, the innermost first.
     Frames(u32),
-    /// The function whose code an address lies in.
+    /// The function that contains an address.
     Function(u32),
-    /// The first function that starts at an address or after it, of which nothing else is asked.
+    /// The start of the first function at or after an address.
     NextStart(u32),
     /// The text of a report of addresses.
     Report(Command, &'q [u32]),
@@ -24,21 +24,21 @@ pub(crate) enum Question<'q> {
     IsRead(&'q [u8], u32),
 }
 
-/// How large an answer is, and the addresses of its function.
+/// The sizes of an answer, and the addresses of its function.
 #[repr(C)]
 #[derive(Clone, Copy)]
 pub struct AnswerSizes {
-    /// How many rows the answer has, and how many bytes its texts.
+    /// The number of rows, and the size of the texts in bytes.
     pub rows: usize,
     pub texts: usize,
-    /// Where the function starts, relative to where the program is loaded.
+    /// The start of the function, relative to where the program is loaded.
     pub start: u32,
-    /// The address of the first byte after it, if it is known, and whether it is: 1, or else 0.
+    /// The address just after the function, and 1 if it is known, else 0.
     pub end: u32,
     pub end_known: u32,
 }
 
-// The size of what is found, and its function's addresses.
+// The sizes of a result, and its function's addresses.
 pub(crate) fn sizes(found: &FoundFrames) -> AnswerSizes
     ensures { result ≡ sizes (shown_view found.now) }
 {
@@ -51,8 +51,8 @@ pub(crate) fn sizes(found: &FoundFrames) -> AnswerSizes
     }
 }
 
-/// What a question finds: its function's addresses, rows and texts. A report has no function and no rows, and its texts
-/// are the one text of the report.
+/// The result of a question: its function's addresses, rows and texts. A report has no function and no rows; its text
+/// is in `texts`.
 #[derive(Drop)]
 pub(crate) struct FoundFrames {
     pub(crate) start: u32,
@@ -61,7 +61,7 @@ pub(crate) struct FoundFrames {
     pub(crate) texts: Vec<u8>,
 }
 
-// The text of a report.
+// The result with the text of a report.
 pub(crate) fn found_text(alloc: Global, text: Vec<u8>) -> FoundFrames
     ensures { shown_view result ≡ shown_text text.items }
 {
@@ -73,7 +73,7 @@ pub(crate) fn found_text(alloc: Global, text: Vec<u8>) -> FoundFrames
     }
 }
 
-// A flag, in place of an address.
+// The result of a question whose answer is a flag: 1 or 0 in place of an address.
 pub(crate) fn found_flag(alloc: Global, flag: bool) -> FoundFrames
     ensures { shown_view result ≡ shown_flag flag }
 {
@@ -85,7 +85,7 @@ pub(crate) fn found_flag(alloc: Global, flag: bool) -> FoundFrames
     }
 }
 
-// No function at all.
+// The result if there is no function.
 pub(crate) fn no_frames(alloc: Global) -> FoundFrames
     ensures { shown_view result ≡ shown None }
 {
@@ -97,7 +97,7 @@ pub(crate) fn no_frames(alloc: Global) -> FoundFrames
     }
 }
 
-// What is found of frames.
+// The result with these frames.
 fn rows_of_frames(alloc: Global, found: &FunctionFrames<'_>) -> Result<FoundFrames, AllocError>
     ensures { IfOk result (λ rows. shown_view rows ≡ shown (Some found.now)) }
 {
@@ -112,7 +112,7 @@ fn rows_of_frames(alloc: Global, found: &FunctionFrames<'_>) -> Result<FoundFram
     })
 }
 
-// What is found of frames, where there are any.
+// The result with these frames, if there are any.
 pub(crate) fn found_frames(
     alloc: Global,
     found: &Option<FunctionFrames<'_>>,
@@ -125,7 +125,7 @@ pub(crate) fn found_frames(
     }
 }
 
-// A function as the one frame of itself, with no file and no line.
+// A function as a single frame, without file and line.
 fn frames_of_function(
     alloc: Global,
     function: Function,
@@ -150,7 +150,7 @@ fn frames_of_function(
     })
 }
 
-// A function of which nothing is known but where it starts, where one starts.
+// A function of which only the start is known, if there is one.
 pub(crate) fn function_from(start: Option<u32>) -> Option<Function>
     ensures { option_map function_view result ≡ option_map start_alone start }
 {
@@ -164,7 +164,7 @@ pub(crate) fn function_from(start: Option<u32>) -> Option<Function>
     }
 }
 
-// What is found of a function, where there is one.
+// The result with this function, if there is one.
 pub(crate) fn function_match(
     alloc: Global,
     found: Option<Function>,

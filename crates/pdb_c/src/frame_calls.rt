@@ -1,4 +1,4 @@
-//! The calls for C that answer frames and functions as data.
+//! The calls for C that return frames and functions as data.
 ghost use Rattle.pdb_c.specs.AnswerBuffers.{EndsWithFrames};
 ghost use Rattle.pdb_c.specs.declared.found_frames.Question.TheVariants.{Frames, Function, NextStart};
 
@@ -8,11 +8,13 @@ use crate::frame_rows::FrameRow;
 use crate::handle::Handle;
 use std::alloc::Global;
 
-/// Writes the frames over an address to the caller's buffers, by the records that a handle holds: a row for each, the
-/// innermost first, and the texts that rows lead to, each with a 0 after it. `size` says how many there are of both,
-/// and which function it is. Answers 0, also where no function lies there, and then there are no rows. Where there is
-/// no answer, or it is larger than the buffers, nothing is written to these, and the answer is the refusal's number. The
-/// handle holds the same records, and its context remembers what it met broken.
+/// Writes the frames at an address to the caller's buffers, by the records that a handle holds. Each frame is a row,
+/// the innermost first. The rows refer to `texts`, where each text ends in a 0. `size` gets the number of rows, the
+/// size of the texts and the function's addresses.
+///
+/// Returns 0, also if no function contains the address; then there are no rows. If there is no answer, or it is larger
+/// than the buffers, nothing is written to these, and the number of the error is returned. The handle keeps its
+/// records, and its context remembers which parts it found broken.
 #[unsafe(no_mangle)]
 pub extern "C" fn limberlime_find_frames_unchecked(
     alloc: Global,
@@ -29,7 +31,7 @@ pub extern "C" fn limberlime_find_frames_unchecked(
     answer_with_frames(found, rows, texts, size)
 }
 
-/// Writes the function over an address: a row for it alone, with no file and no line. All else is as of
+/// Writes the function at an address as a single row, without file and line. Everything else is as in
 /// [`limberlime_find_frames_unchecked`].
 #[unsafe(no_mangle)]
 pub extern "C" fn limberlime_find_function_unchecked(
@@ -47,8 +49,8 @@ pub extern "C" fn limberlime_find_function_unchecked(
     answer_with_frames(found, rows, texts, size)
 }
 
-/// Writes where the first function starts from an address on: a row for it alone, with no name, no file and no line,
-/// and no row where none starts there or after. All else is as of [`limberlime_find_frames_unchecked`].
+/// Writes the start of the first function at or after an address as a single row, without name, file and line. If no
+/// function starts there, there are no rows. Everything else is as in [`limberlime_find_frames_unchecked`].
 #[unsafe(no_mangle)]
 pub extern "C" fn limberlime_next_start_unchecked(
     alloc: Global,

@@ -1,4 +1,4 @@
-//! Frames as data: a row of each, and the texts that rows lead to.
+//! Frames as data: a row for each, and the texts to which rows refer.
 ghost use Rattle.std.specs.Prelude.{◌≡◌, ◌++◌, length, option_map, string_bytes, IfOk, OnOk};
 ghost use Rattle.pdb_frames.specs.SourceFiles.{file_name_of, known_text};
 ghost use Rattle.pdb_c.specs.FrameRows.{known_place, place_at, row_at, rows_of};
@@ -8,11 +8,11 @@ use pdb_addr2line::Frame;
 use std::alloc::AllocError;
 use std::borrow::CowStr;
 
-/// Where no text stands that isn't known.
+/// The start of a text that isn't known.
 const NOWHERE: usize = 0xffff_ffff_ffff_ffff;
 
-/// Where a text stands among the texts of an answer, by its first byte, and its length in bytes. One that isn't known
-/// stands at the greatest number there is, and has none.
+/// The offset of a text in the texts of an answer, and its length in bytes. A text that isn't known has the greatest
+/// number as its offset, and the length 0.
 #[repr(C)]
 #[derive(Clone, Copy)]
 pub struct TextPlace {
@@ -20,7 +20,7 @@ pub struct TextPlace {
     pub length: usize,
 }
 
-/// A frame: the texts of its function and its file, and its line, which is 0 where none is known.
+/// A frame: the texts of its function and its file, and its line; 0 if the line isn't known.
 #[repr(C)]
 #[derive(Clone, Copy)]
 pub struct FrameRow {
@@ -29,7 +29,7 @@ pub struct FrameRow {
     pub line: u32,
 }
 
-// Appends a text with a 0 after it, and answers where it stands.
+// Appends a text and a 0 after it, and returns its place.
 fn append_text(texts: &mut Vec<u8>, text: &str) -> Result<TextPlace, AllocError>
     ensures place { IfOk result (λ place. place ≡ known_place (length texts.old.items) text.now) }
     ensures state { OnOk result (texts.new.items ≡ texts.old.items ++ ended text.now) }
@@ -43,7 +43,7 @@ fn append_text(texts: &mut Vec<u8>, text: &str) -> Result<TextPlace, AllocError>
     })
 }
 
-// Appends the name of a function, where it is known.
+// Appends the name of a function, if it is known.
 fn append_function(texts: &mut Vec<u8>, name: &Option<String>) -> Result<TextPlace, AllocError>
     ensures place { IfOk result (λ place. place
         ≡ place_at (length texts.old.items) (option_map string_bytes name.now)) }
@@ -61,7 +61,7 @@ fn append_function(texts: &mut Vec<u8>, name: &Option<String>) -> Result<TextPla
     }
 }
 
-// Appends the name of a file, where it is known.
+// Appends the name of a file, if it is known.
 fn append_file(texts: &mut Vec<u8>, name: &Option<CowStr<'_>>) -> Result<TextPlace, AllocError>
     ensures place { IfOk result (λ place. place
         ≡ place_at (length texts.old.items) (known_text (option_map file_name_of name.now))) }
@@ -79,7 +79,7 @@ fn append_file(texts: &mut Vec<u8>, name: &Option<CowStr<'_>>) -> Result<TextPla
     }
 }
 
-// Appends the texts of a frame, and answers its row.
+// Appends the texts of a frame, and returns its row.
 fn append_frame(texts: &mut Vec<u8>, frame: &Frame<'_>) -> Result<FrameRow, AllocError>
     ensures row { IfOk result (λ row. row ≡ row_at (length texts.old.items) frame.now) }
     ensures state { OnOk result (texts.new.items ≡ texts.old.items ++ frame_texts frame.now) }

@@ -1,4 +1,4 @@
-//! The handle of an opening, which lies in memory of the caller's and owns records and a context over them.
+//! `Handle`: owns opened records and a context over them, in memory of the C caller.
 ghost use Rattle.std.specs.Prelude.{◌≡◌, Option, None};
 ghost use Rattle.pdb_records.specs.Records.{Records};
 ghost use Rattle.pdb_addr2line.specs.ContextInputs.{ContextState};
@@ -19,14 +19,14 @@ use std::marker::Model;
 use std::mem::replace;
 use std::ptr::null_mut;
 
-/// Records that were opened and a context over them, each after a pointer, or none, where the second pointer is null.
-/// No type that leads to a list may cross to C, so the pointers' own type names nothing.
+/// Opened records and a context over them, each behind a pointer; or neither, if the second pointer is null. No type
+/// that contains a list may be passed to C, so the pointers have the type of a byte.
 #[repr(C)]
 pub struct Handle {
     records: *mut u8,
     context: *mut u8,
     alloc: Global,
-    /// The context that is held.
+    /// The state of the context.
     pub ghost held: { Option (ContextState Records) },
 }
 
@@ -37,7 +37,7 @@ impl Model for Handle {
 }
 
 impl Handle {
-    // A handle that holds no records.
+    // A closed handle, without records.
     fn closed(alloc: Global) -> Handle
         ensures { result.held ≡ None }
     {
@@ -48,7 +48,7 @@ impl Handle {
         }
     }
 
-    // A handle that holds these records and a context over them.
+    // A handle with these records and a new context over them.
     fn over(records: Loose<ContextPdbData<'static>, Global>) -> Result<Handle, CallError>
         ensures { Agrees (λ handle. handle.held) result (held_by (context_over records.entry.value)) }
     {
@@ -63,7 +63,7 @@ impl Handle {
         }
     }
 
-    // What the context answers to a question, if there is one.
+    // The context's answer to a question; `None` if the handle is closed.
     fn ask(
         &mut self,
         alloc: Global,
@@ -80,7 +80,7 @@ impl Handle {
         }
     }
 
-    // Gives the context back, and hands out the records, if there are any.
+    // Frees the context, and returns the records, if there are any.
     fn into_records(self) -> Option<Loose<ContextPdbData<'static>, Global>> {
         let Handle {
             records,
@@ -101,7 +101,7 @@ impl Handle {
         }
     }
 
-    // Holds from now on what another handle holds, and gives back what it held before.
+    // Replaces this handle by another one, and frees what it held before.
     fn exchange(&mut self, next: Handle)
         ensures { self.new.held ≡ next.held }
     {
@@ -110,15 +110,15 @@ impl Handle {
         }
     }
 
-    // Gives back what is held, if there is anything.
+    // Frees the records and the context, if the handle is open.
     pub(crate) fn close(&mut self, alloc: Global)
         ensures { self.new.held ≡ None }
     {
         self.exchange(Handle::closed(alloc));
     }
 
-    // Holds these records and a context over them from now on, and gives back what it held before. Where the records
-    // have no context, it holds what it held.
+    // Replaces the records by these, with a new context, and frees what the handle held before. If no context can be
+    // made over the records, the handle stays as it was.
     pub(crate) fn open(&mut self, records: Box<ContextPdbData<'static>>) -> Result<(), CallError>
         ensures { LeavesOpened result (context_over records.entry.value) self.old.held self.new.held }
     {

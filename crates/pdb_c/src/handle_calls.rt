@@ -1,4 +1,4 @@
-//! The calls for C that open records, ask about those that are open, and close them.
+//! The calls for C that open records, write reports over open records, and close them.
 
 ghost use Rattle.std.specs.Prelude.{◌≡◌, [], None};
 ghost use Rattle.pdb_report_lib.specs.declared.reports.Command.TheVariants.{Names, Frames};
@@ -12,8 +12,9 @@ use crate::records_calls::limberlime_open_records_unchecked;
 use pdb_report_lib::Command;
 use std::alloc::Global;
 
-/// Reads the records in the bytes of a records file into a handle, and answers 0. Where there are none, or they have
-/// no context, the handle is closed, and the answer is the refusal's number. What it held before is given back first.
+/// Reads the records of a records file into a handle, and returns 0. What the handle held before is freed first. If the
+/// records can't be read, or no context can be made over them, the handle is closed, and the number of the error is
+/// returned.
 #[unsafe(no_mangle)]
 pub extern "C" fn limberlime_open_unchecked(
     alloc: Global,
@@ -25,10 +26,10 @@ pub extern "C" fn limberlime_open_unchecked(
     limberlime_open_records_unchecked(alloc, records, &[], &[], handle)
 }
 
-/// Writes the lines of the frames over addresses to the caller's buffer, as `pdb_report RECORDS frames ADDRESS...`
-/// prints them of the records that a handle holds, and answers the text's length in bytes; `wanted` is that length
-/// too. Where there is no such text, or it is longer than the buffer, nothing is written, and the answer is the
-/// refusal's number. The handle holds the same records, and its context remembers what it met broken.
+/// Writes the frames at addresses to the caller's buffer, as lines like those that `pdb_report RECORDS frames
+/// ADDRESS...` prints, by the records that a handle holds. Returns the text's length in bytes, and sets `wanted` to it.
+/// If there is no such text, or it is longer than the buffer, nothing is written, and the number of the error is
+/// returned. The handle keeps its records, and its context remembers which parts it found broken.
 #[unsafe(no_mangle)]
 pub extern "C" fn limberlime_frames_of_unchecked(
     alloc: Global,
@@ -44,8 +45,8 @@ pub extern "C" fn limberlime_frames_of_unchecked(
     answer(found, buffer, wanted)
 }
 
-/// Writes a line with the function of each address to the caller's buffer, as `pdb_report RECORDS names ADDRESS...`
-/// prints them. All else is as of [`limberlime_frames_of_unchecked`].
+/// Writes a line with the function of each address to the caller's buffer, like those that `pdb_report RECORDS names
+/// ADDRESS...` prints. Everything else is as in [`limberlime_frames_of_unchecked`].
 #[unsafe(no_mangle)]
 pub extern "C" fn limberlime_names_of_unchecked(
     alloc: Global,
@@ -61,7 +62,7 @@ pub extern "C" fn limberlime_names_of_unchecked(
     answer(found, buffer, wanted)
 }
 
-/// Gives the records back that a handle holds. A handle that is closed stays so.
+/// Frees the records that a handle holds. A closed handle stays closed.
 #[unsafe(no_mangle)]
 pub extern "C" fn limberlime_close_unchecked(alloc: Global, handle: &mut Handle)
     ensures { handle.new.held ≡ None }

@@ -1,4 +1,4 @@
-//! What is opened answers as the calls over bytes do.
+//! A law: calls over a handle return the same as calls over the bytes that were opened.
 ghost use Rattle.std.specs.Prelude.{◌≡◌, ℕ, List, [], ◌∷◌, Some, Ok, Err};
 ghost use Rattle.pdb_records.specs.Records.{Records};
 ghost use Rattle.pdb_addr2line.specs.ContextInputs.{ContextState};
@@ -8,8 +8,8 @@ ghost use Rattle.pdb_c.specs.ReportTexts.{asked_text};
 ghost use Rattle.pdb_c.specs.Openings.{context_to_open};
 ghost use Rattle.pdb_c.specs.Questions.{text_of_handle};
 
-/// Where bytes open, a handle that holds the context over their records is answered what the calls over these bytes
-/// are. Where opening is refused, the calls over the bytes are refused alike, of whatever addresses.
+/// If bytes can be opened, calls over a handle with their records return the same as calls over the bytes. If opening
+/// is refused, the calls over the bytes are refused in the same way, for all addresses.
 pub fn a_handle_is_answered_as_its_bytes_are()
     ensures opened { (command : Command) (bytes addresses : List ℕ) (context : ContextState Records)
         → context_to_open bytes [] ≡ Ok context

@@ -1,7 +1,8 @@
-//! The library for C: reports over the bytes of a records file, written into a buffer of the caller's.
+//! The library for C: lookups and reports over PDB files and records files, written into the caller's buffers.
 //!
-//! Whatever calls C may call it, and a report is as the program `pdb_report` prints it. `include/limberlime.h`
-//! declares the calls, sees that no pointer is null, and names the numbers that they answer.
+//! Any language that can call C can call it. A report has the same text as that of the program `pdb_report`.
+//! `include/limberlime.h` declares the calls, checks that no pointer is null, and names the numbers that the calls
+//! return.
 #![tactic(auto)]
 
 mod answer_buffers;

@@ -1,4 +1,4 @@
-//! The call for C for the processor that the program of a PDB file is for.
+//! The call for C that returns the machine of a PDB file's program.
 ghost use Rattle.pdb_c.specs.Machines.{machine_number, EndsWithNumber};
 ghost use Rattle.pdb_c.specs.ReportTexts.{Agrees};
 
@@ -6,7 +6,7 @@ use crate::call_error::CallError;
 use pdb_container::read_identity;
 use std::alloc::Global;
 
-// The number of the processor that the program of a PDB file is for.
+// The number of the machine of a PDB file's program.
 fn machine_number(alloc: Global, pdb: &[u8]) -> Result<u16, CallError>
     ensures { Agrees (λ number. number) result (machine_number pdb.now) }
 {
@@ -16,8 +16,8 @@ fn machine_number(alloc: Global, pdb: &[u8]) -> Result<u16, CallError>
     Ok(identity.machine.map_or(0, |machine| machine.0))
 }
 
-/// Answers the number of the processor that the program of a PDB file is for, as programs have it, and 0 where the file
-/// doesn't say it; or the refusal's number.
+/// Returns the number of the machine of a PDB file's program, as program headers have it; 0 if the file doesn't say it;
+/// or the number of the error.
 #[unsafe(no_mangle)]
 pub extern "C" fn limberlime_machine_unchecked(alloc: Global, pdb: &[u8]) -> i64
     ensures { EndsWithNumber (machine_number pdb.now) result }

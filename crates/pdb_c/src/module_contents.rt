@@ -1,4 +1,4 @@
-//! The module files that a records file names: their names for C, and their contents as they come from there.
+//! The module files that a records file names: their names for C, and their contents as C passes them.
 ghost use Rattle.std.specs.Prelude.{◌≡◌, map, string_bytes, IfOk};
 ghost use Rattle.pdb_json.specs.ModuleFiles.{contents};
 ghost use Rattle.pdb_c.specs.ModuleContents.{cut_after, module_files_text, names_text};
@@ -8,7 +8,7 @@ use crate::call_error::CallError;
 use pdb_json::module_files;
 use std::alloc::{AllocError, Global};
 
-// Contents that stand one after the other, cut after these lengths.
+// Splits the concatenated contents of files by their lengths.
 pub(crate) fn cut_after(
     alloc: Global,
     bytes: &[u8],
@@ -26,7 +26,7 @@ pub(crate) fn cut_after(
     Ok(files)
 }
 
-// Names one after the other, each with a 0 after it.
+// The names as one text, each followed by a 0.
 fn names_text(alloc: Global, names: &[String]) -> Result<Vec<u8>, AllocError>
     ensures { IfOk result (λ text. text.items ≡ names_text (map string_bytes names.now)) }
 {
@@ -38,7 +38,7 @@ fn names_text(alloc: Global, names: &[String]) -> Result<Vec<u8>, AllocError>
     Ok(text)
 }
 
-// The names of the module files that a records file wants, as one text.
+// The names of the module files that a records file names, as one text.
 pub(crate) fn module_files_text(alloc: Global, bytes: &[u8]) -> Result<Vec<u8>, CallError>
     ensures { Agrees (λ text. text.items) result (module_files_text bytes.now) }
 {

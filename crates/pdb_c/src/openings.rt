@@ -1,4 +1,4 @@
-//! Records that are read once, for many questions.
+//! Opens records files into handles, and writes reports over them.
 ghost use Rattle.pdb_json.specs.ModuleFiles.{contents};
 ghost use Rattle.pdb_c.specs.ReportTexts.{Agrees};
 ghost use Rattle.pdb_c.specs.Openings.{accepted_records, records_to_open, context_to_open, LeavesOpened};
@@ -13,7 +13,7 @@ use pdb_addr2line::pdb::PDB;
 use pdb_report_lib::Command;
 use std::alloc::Global;
 
-// These records, where their streams could be read, in memory of their own.
+// Prepares records for contexts, in their own allocation. Refused if a stream that contexts need can't be read.
 pub(crate) fn accepted_records(
     alloc: Global,
     records: PDB,
@@ -27,7 +27,7 @@ pub(crate) fn accepted_records(
     }
 }
 
-// The records in the bytes of a records file and of its module files, in memory of their own.
+// Reads the records of a records file and its module files, in their own allocation.
 fn records_to_open(
     alloc: Global,
     bytes: &[u8],
@@ -39,7 +39,7 @@ fn records_to_open(
     accepted_records(alloc, records)
 }
 
-// Puts the records in the bytes of a records file and of its module files into a closed handle.
+// Opens the records of a records file and its module files in a closed handle.
 pub(crate) fn open_records(
     alloc: Global,
     bytes: &[u8],
@@ -52,7 +52,7 @@ pub(crate) fn open_records(
     handle.open(records)
 }
 
-// The text of a report of what a handle holds.
+// The text of a report over an open handle.
 pub(crate) fn text_of_handle(
     alloc: Global,
     command: Command,

@@ -7,8 +7,8 @@ use crate::handle::Handle;
 use crate::pdb_openings::{debug_id_text, open_pdb};
 use std::alloc::Global;
 
-/// Reads the records in the bytes of a PDB file into a handle, and answers 0. Where nothing can be answered over them
-/// the handle is closed, and the answer is the refusal's number. What it held before is given back first.
+/// Reads the records of a PDB file into a handle, and returns 0. What the handle held before is freed first. If nothing
+/// can be answered over the records, the handle is closed, and the number of the error is returned.
 #[unsafe(no_mangle)]
 pub extern "C" fn limberlime_open_pdb_unchecked(
     alloc: Global,
@@ -24,9 +24,9 @@ pub extern "C" fn limberlime_open_pdb_unchecked(
     }
 }
 
-/// Writes the debug id of a PDB file to the caller's buffer, as symbol servers have it, and answers its length in
-/// bytes; `wanted` is that length too. Where there is none, or it is longer than the buffer, nothing is written, and
-/// the answer is the refusal's number.
+/// Writes the debug id of a PDB file to the caller's buffer, in the form of symbol servers. Returns its length in
+/// bytes, and sets `wanted` to it. If there is no debug id, or it is longer than the buffer, nothing is written, and
+/// the number of the error is returned.
 #[unsafe(no_mangle)]
 pub extern "C" fn limberlime_debug_id_unchecked(
     alloc: Global,

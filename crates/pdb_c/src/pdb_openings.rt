@@ -1,4 +1,4 @@
-//! PDB files that are read once, for many questions, and which build one is of.
+//! Opens PDB files into handles, and reads their debug ids.
 ghost use Rattle.std.specs.Prelude.{◌≡◌, Ok, IfOk};
 ghost use Rattle.pdb_container.specs.PdbFile.{records_of};
 ghost use Rattle.pdb_c.specs.Openings.{repaired_file, LeavesOver};
@@ -12,7 +12,7 @@ use pdb_identity::DebugId;
 use pdb_repairs::repair_records;
 use std::alloc::{AllocError, Global};
 
-// The records of a PDB file over which something can be answered, as they stand in the file.
+// Reads the records of a PDB file, before repairs. Refused if nothing can be answered over them.
 fn records_of_file(alloc: Global, bytes: &[u8]) -> Result<PDB, CallError>
     ensures { IfOk result (λ records. records_of bytes.now ≡ Ok records) }
 {
@@ -27,7 +27,7 @@ fn records_of_file(alloc: Global, bytes: &[u8]) -> Result<PDB, CallError>
     }
 }
 
-// The records of a PDB file, of which what is broken is taken out.
+// Reads and repairs the records of a PDB file.
 fn repaired_records(alloc: Global, bytes: &[u8]) -> Result<PDB, CallError>
     ensures { IfOk result (λ records. repaired_file bytes.now ≡ Ok records) }
 {
@@ -36,7 +36,7 @@ fn repaired_records(alloc: Global, bytes: &[u8]) -> Result<PDB, CallError>
     Ok(records)
 }
 
-// Puts the records of a PDB file into a closed handle.
+// Opens the records of a PDB file in a closed handle.
 pub(crate) fn open_pdb(alloc: Global, bytes: &[u8], handle: &mut Handle) -> Result<(), CallError>
     ensures { LeavesOver bytes.now result handle.old.held handle.new.held }
 {
@@ -45,7 +45,7 @@ pub(crate) fn open_pdb(alloc: Global, bytes: &[u8], handle: &mut Handle) -> Resu
     handle.open(records)
 }
 
-// The text of a debug id, as symbol servers have it.
+// The text of a debug id in the form of symbol servers.
 fn compact_text(alloc: Global, id: DebugId) -> Result<String, AllocError> {
     let id = id.compact();
     format!(in alloc; "{id}")

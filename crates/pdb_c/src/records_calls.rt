@@ -1,4 +1,4 @@
-//! The calls for C over a records file with its module files.
+//! The calls for C over a records file that has module files.
 ghost use Rattle.pdb_c.specs.Buffers.{Ends};
 ghost use Rattle.pdb_c.specs.ModuleContents.{cut_after, module_files_text};
 ghost use Rattle.pdb_c.specs.Openings.{context_to_open, LeavesOpened, Opens};
@@ -10,10 +10,10 @@ use crate::module_contents::{cut_after, module_files_text};
 use crate::openings::open_records;
 use std::alloc::Global;
 
-/// Writes the names of the module files that a records file wants to the caller's buffer, in the order in which
-/// [`limberlime_open_records_unchecked`] takes their contents, each with a 0 after it, and answers the text's length
-/// in bytes; `wanted` is that length too. Where there is no such text, or it is longer than the buffer, nothing is
-/// written, and the answer is the refusal's number.
+/// Writes the names of the module files that a records file names to the caller's buffer, each followed by a 0.
+/// [`limberlime_open_records_unchecked`] takes their contents in the same order. Returns the text's length in bytes,
+/// and sets `wanted` to it. If there is no such text, or it is longer than the buffer, nothing is written, and the
+/// number of the error is returned.
 #[unsafe(no_mangle)]
 pub extern "C" fn limberlime_module_files_unchecked(
     alloc: Global,
@@ -27,8 +27,8 @@ pub extern "C" fn limberlime_module_files_unchecked(
     answer(found, buffer, wanted)
 }
 
-// Puts the records in the bytes of a records file and of its module files, which stand one after the other, into a
-// closed handle.
+// Opens the records of a records file and its module files in a closed handle. `contents` is the concatenation of the
+// module files.
 fn open_pieces(
     alloc: Global,
     records: &[u8],
@@ -43,9 +43,9 @@ fn open_pieces(
     open_records(alloc, records, &files, handle)
 }
 
-/// Reads the records in the bytes of a records file and of its module files into a handle, and answers 0. The contents
-/// of the module files stand one after the other, in the order of [`limberlime_module_files_unchecked`], and `lengths`
-/// has how many bytes each has. All else is as of `limberlime_open_unchecked`.
+/// Reads the records of a records file and its module files into a handle, and returns 0. `contents` is the
+/// concatenation of the module files, in the order of [`limberlime_module_files_unchecked`], and `lengths` has the
+/// length of each in bytes. Everything else is as in `limberlime_open_unchecked`.
 #[unsafe(no_mangle)]
 pub extern "C" fn limberlime_open_records_unchecked(
     alloc: Global,

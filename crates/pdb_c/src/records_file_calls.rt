@@ -9,9 +9,9 @@ use crate::report_texts::asked_text;
 use pdb_report_lib::Command;
 use std::alloc::Global;
 
-/// Writes the lines of the frames over addresses to the caller's buffer, as `pdb_report RECORDS frames ADDRESS...`
-/// prints them, and answers the text's length in bytes; `wanted` is that length too. Where there is no such text, or
-/// it is longer than the buffer, nothing is written, and the answer is the refusal's number.
+/// Writes the frames at addresses to the caller's buffer, as lines like those that `pdb_report RECORDS frames
+/// ADDRESS...` prints. Returns the text's length in bytes, and sets `wanted` to it. If there is no such text, or it is
+/// longer than the buffer, nothing is written, and the number of the error is returned.
 #[unsafe(no_mangle)]
 pub extern "C" fn limberlime_frames_unchecked(
     alloc: Global,
@@ -26,8 +26,8 @@ pub extern "C" fn limberlime_frames_unchecked(
     answer(found, buffer, wanted)
 }
 
-/// Writes a line with the function of each address to the caller's buffer, as `pdb_report RECORDS names ADDRESS...`
-/// prints them. All else is as of [`limberlime_frames_unchecked`].
+/// Writes a line with the function of each address to the caller's buffer, like those that `pdb_report RECORDS names
+/// ADDRESS...` prints. Everything else is as in [`limberlime_frames_unchecked`].
 #[unsafe(no_mangle)]
 pub extern "C" fn limberlime_names_unchecked(
     alloc: Global,

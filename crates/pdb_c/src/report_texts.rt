@@ -1,4 +1,4 @@
-//! The text of a report, gathered in memory over the bytes of a records file or over records.
+//! Writes the text of a report into memory, over a records file or over records.
 
 ghost use Rattle.pdb_addr2line.specs.ContextData.{default_flags, context_of};
 ghost use Rattle.pdb_json.specs.ModuleFiles.{contents};
@@ -13,7 +13,7 @@ use pdb_json::read_records_with;
 use pdb_report_lib::{Command, Out, report};
 use std::alloc::Global;
 
-// The text of a report of a context.
+// The text of a report over a context.
 pub(crate) fn report_in(
     alloc: Global,
     context: &mut Context<'_, ContextPdbData<'_>>,
@@ -28,7 +28,7 @@ pub(crate) fn report_in(
     Ok(out.into_inner())
 }
 
-// The text of a report over records whose streams were read.
+// The text of a report over prepared records.
 fn text_over(
     alloc: Global,
     command: Command,
@@ -55,7 +55,7 @@ fn text_of_records(
     text_over(alloc, command, &context_data, addresses)
 }
 
-// The records in the bytes of a records file and of its module files.
+// Reads the records of a records file and its module files.
 pub(crate) fn records_in(alloc: Global, bytes: &[u8], files: &[Vec<u8>]) -> Result<PDB, CallError>
     ensures { Agrees (λ records. records) result (records_in bytes.now (contents files.now)) }
 {
@@ -63,7 +63,7 @@ pub(crate) fn records_in(alloc: Global, bytes: &[u8], files: &[Vec<u8>]) -> Resu
     Ok(records)
 }
 
-// The text of a report over the bytes of a records file.
+// The text of a report over a records file.
 fn text_in(
     alloc: Global,
     command: Command,
@@ -76,7 +76,7 @@ fn text_in(
     text_of_records(alloc, command, records, addresses)
 }
 
-// The text that is asked for, which has to be of at least one address.
+// The text of a report over a records file. A report of no address is refused.
 pub(crate) fn asked_text(
     alloc: Global,
     command: Command,

@@ -1,4 +1,4 @@
--- The change points of a program: the addresses at which what lies over an address, and its frames, may change.
+-- The change points of a program: the addresses at which the function and its frames may change.
 use Rattle.std.specs.Prelude.{◌≡◌, ℕ, ◌+◌, ◌^◌, ◌<◌, ◌≤◌, List, [], ◌∷◌, ◌++◌, Option, Result, Contains}
 use Rattle.std.specs.Prelude.{length, slice_index}
 use Rattle.std.specs.List.{flat_map}
@@ -28,19 +28,19 @@ abbrev pub change_points : ContextInputs Records → List ℕ
 change_points s =
     program_points s.address_map (contributions_of s) (global_functions_of s) s.provider.module_infos
 
--- none of these numbers lies above one address and at or below another
+-- no number of a list is above one address and at or below another
 abbrev pub NoneBetween : List ℕ → ℕ → ℕ → Type 0
 NoneBetween points x y = (point : ℕ) → Contains points point → IsOutside x y point
 
--- an address lies in the piece of a position: at or above the number there, and below the next one, if there is one
+-- an address is in the piece at a position: at or above the number there, and below the next one, if there is one
 pub record LiesInPiece (points : List ℕ) (position address : ℕ) : Type 0 where
   pub listed : position < length points
   pub from : slice_index points position ≤ address
   pub below : position + 1 < length points → address < slice_index points (position + 1)
   pub fits : address < 2 ^ 32
 
--- a list has the change points of a context. At each address of a piece the contribution over it, what lies over it,
--- the name of its symbol and the frames are the same as at the number where the piece begins
+-- a list has the change points of a context. At each address of a piece, the contribution, the function, the name of
+-- its symbol and the frames are those at the start of the piece
 pub record AreChangePoints (s : ContextInputs Records) (points : List ℕ) : Type 0 where
   pub members : HaveSameMembers points (change_points s)
   pub contributions : (position address : ℕ) → LiesInPiece points position address

@@ -13,7 +13,7 @@ use Rattle.pdb_inline.specs.declared.inline_ranges.InlineRange.{InlineRange}
 use Rattle.pdb_frames.specs.ExtendedInfo.{ExtendedInfo, extended_info}
 use Rattle.pdb_change_points.specs.Points.{procedure_points, entry_points, range_points}
 
--- the inline ranges of a procedure, and none where they are refused
+-- the inline ranges of a procedure; none if they are refused
 abbrev pub ranges_or_none : List IdIndex → ModuleInfo → ModuleProcedure → List InlineRange
 ranges_or_none inlinees info p =
     result_unwrap_or (procedure_inline_ranges inlinees info p.symbol_index.0 p.end_symbol_index.0) []
@@ -23,20 +23,20 @@ abbrev pub inlined_points : List AddressRange → List IdIndex → ModuleInfo �
 inlined_points sections inlinees info procedures =
     flat_map (λ p. range_points sections p.offset.section (ranges_or_none inlinees info p)) procedures
 
--- the change points of a module's code beside its procedures: those of its line program and of the inline ranges of its
--- procedures, and none where what is known of the code is refused
+-- the change points of a module's code, apart from its procedures: those of its line program and of the inline ranges
+-- of its procedures; none if the records of the code are refused
 abbrev pub code_points : List AddressRange → ModuleInfo → Result ExtendedInfo Error → List ℕ
 code_points sections info (Ok known) =
     entry_points sections known.line_program.entries
     ++ inlined_points sections known.inlinees info (info_procedures info)
 code_points sections info (Err e) = []
 
--- the change points of a module's records: those of its procedures, and those of its code beside them
+-- the change points of a module's records: those of its procedures, and those of the rest of its code
 abbrev pub module_points : List AddressRange → ModuleInfo → List ℕ
 module_points sections info =
     procedure_points sections (info_procedures info) ++ code_points sections info (extended_info info)
 
--- the same of what the records hold of a module; records that are missing or broken have none
+-- the change points of a module by a provider's answer; missing or broken records have none
 abbrev pub answer_points : List AddressRange → Result (Option ModuleInfo) StreamError → List ℕ
 answer_points sections (Ok (Some info)) = module_points sections info
 answer_points sections (Ok None) = []

@@ -11,32 +11,32 @@ use Rattle.pdb_functions.specs.Procedures.{ModuleProcedure}
 use Rattle.pdb_functions.specs.declared.merged_contributions.ModuleSectionContribution.{ModuleSectionContribution}
 use Rattle.pdb_inline.specs.declared.inline_ranges.InlineRange.{InlineRange}
 
--- an address as a change point: none where there is no address
+-- an optional address as a list of change points
 abbrev pub point_of : Option Rva → List ℕ
 point_of None = []
 point_of (Some address) = address.0 ∷ []
 
--- the change point at an offset in a section: the address there, where it fits 32 bits
+-- the change point at an offset in a section: its address, if it fits in 32 bits
 abbrev pub point_at : List AddressRange → ℕ → ℕ → List ℕ
 point_at sections section offset = point_of (rva sections (record { section = section; offset = offset }))
 
--- the change points of the address map: where each of its ranges starts and ends
+-- the change points of the address map: the start and the end of each range
 abbrev pub map_points : List AddressRange → List ℕ
 map_points sections =
     flat_map (λ range. point_of (rva_of range.virtual_address)
     ++ point_of (rva_of (range.virtual_address + range.virtual_size))) sections
 
--- the change points of merged contributions: where each starts and ends
+-- the change points of merged contributions: the start and the end of each
 abbrev pub contribution_points : List AddressRange → List ModuleSectionContribution → List ℕ
 contribution_points sections contributions =
     flat_map (λ c. point_at sections c.section_index c.start_offset
     ++ point_at sections c.section_index c.end_offset) contributions
 
--- the change points of global functions: where each starts
+-- the change points of global functions: the start of each
 abbrev pub global_points : List AddressRange → List GlobalFunction → List ℕ
 global_points sections globals = flat_map (λ f. point_at sections f.start.section f.start.offset) globals
 
--- the change points of procedures: where each starts and ends
+-- the change points of procedures: the start and the end of each
 abbrev pub procedure_points : List AddressRange → List ModuleProcedure → List ℕ
 procedure_points sections procedures =
     flat_map (λ p. point_at sections p.offset.section p.offset.offset
@@ -51,12 +51,12 @@ abbrev pub entry_points : List AddressRange → List SymbolLines → List ℕ
 entry_points sections entries =
     flat_map (λ entry. row_points sections entry.offset.section entry.lines.items) entries
 
--- the change points of inline ranges in a section: where each starts and ends
+-- the change points of inline ranges in a section: the start and the end of each
 abbrev pub range_points : List AddressRange → ℕ → List InlineRange → List ℕ
 range_points sections section ranges =
     flat_map (λ range. point_at sections section range.start_offset
     ++ point_at sections section range.end_offset) ranges
 
--- a number doesn't lie above one address and at or below another
+-- a number isn't above one address and at or below another
 abbrev pub IsOutside : ℕ → ℕ → ℕ → Type 0
 IsOutside x y point = x < point → y < point

@@ -1,6 +1,6 @@
-//! Where frames may change.
+//! A law: answers change only at change points.
 //!
-//! The function here does nothing. Its contract is a law, for all records, and the check proves it.
+//! The function here does nothing. Its contract states the law, which the checker proves for all records.
 
 ghost use Rattle.std.specs.Prelude.{◌≡◌, ℕ, ◌^◌, ◌<◌, ◌≤◌};
 ghost use Rattle.pdb_records.specs.Records.{Records};
@@ -10,9 +10,9 @@ ghost use Rattle.pdb_addr2line.specs.NamedFunctions.{symbol_name_at};
 ghost use Rattle.pdb_known.specs.Known.{infos_of};
 ghost use Rattle.pdb_change_points.specs.ChangePoints.{change_points, NoneBetween};
 
-/// Take two addresses of 32 bits, and a context over all records. If no change point of the context lies above the
-/// lower address and at or below the higher one, both have the same answers: the contribution over the address, what
-/// lies over it, the name of its symbol, the frames, and the broken part to blame if frames are refused.
+/// Take two 32-bit addresses, and a context over all records. If no change point of the context is greater than the
+/// lower address and at most the higher one, both have the same answers: the contribution and the function at the
+/// address, the name of its symbol, the frames, and the broken part if frames are refused.
 pub fn answers_change_at_change_points()
     ensures contributions { (inputs : ContextInputs Records) (x y : ℕ) → x ≤ y → y < 2 ^ 32
         → NoneBetween (change_points inputs) x y → contribution_at inputs x ≡ contribution_at inputs y }

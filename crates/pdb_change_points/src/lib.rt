@@ -1,9 +1,9 @@
 //! The addresses at which frames may change.
 //!
 //! [`change_points`] lists the change points of a program's records: 0, and the addresses at which sections,
-//! contributions, functions, line rows and inline ranges start and end. They divide the addresses into pieces: each
-//! piece goes from one change point up to the next. What lies over an address and its frames are the same at all
-//! addresses of a piece, so a caller that walks over all code asks once per piece, and not once per byte:
+//! contributions, functions, line rows and inline ranges start and end. They divide the addresses into pieces, each
+//! from one change point up to the next. All addresses of a piece have the same function and the same frames. So a
+//! caller that walks over all code asks once per piece, and not once per byte:
 //!
 //! ```
 //! let points = change_points(alloc, &records)?;
@@ -13,7 +13,7 @@
 //! }
 //! ```
 //!
-//! The function of [`change_laws`] does nothing. Its contract is the law that frames change at change points alone.
+//! The function of [`change_laws`] does nothing. Its contract states the law that frames change only at change points.
 #![tactic(auto)]
 
 pub mod change_laws;

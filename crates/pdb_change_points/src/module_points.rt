@@ -1,4 +1,4 @@
-//! The change points of modules: of their procedures, line rows and inline ranges.
+//! Collects the change points of modules: those of their procedures, line rows and inline ranges.
 
 ghost use Rattle.std.specs.Prelude.{◌≡◌, ◌++◌, map, IfOk, OnOk};
 ghost use Rattle.std.specs.List.{flat_map};
@@ -19,7 +19,7 @@ use pdb_records::{AddressMap, IdIndex, ModuleInfo, StreamError};
 use std::alloc::{AllocError, Global};
 use std::collections::BTreeSet;
 
-// The inline ranges of a procedure, and none where they are refused.
+// The inline ranges of a procedure; none if they are refused.
 fn ranges_or_none(
     alloc: Global,
     module_info: &ModuleInfo,
@@ -38,7 +38,7 @@ fn ranges_or_none(
     }
 }
 
-// Adds where the inline ranges of procedures start and end.
+// Adds the starts and ends of the inline ranges of procedures.
 fn add_inlined_points(
     points: &mut Vec<u32>,
     alloc: Global,
@@ -57,7 +57,7 @@ fn add_inlined_points(
     Ok(())
 }
 
-// Adds the change points of a module's code beside its procedures.
+// Adds the change points of a module's code besides those of its procedures.
 fn add_code_points(
     points: &mut Vec<u32>,
     alloc: Global,
@@ -89,7 +89,7 @@ fn add_code_points(
     }
 }
 
-// Adds the change points of a module's records, where these are its procedures.
+// Adds the change points of a module's records, which has these procedures.
 fn add_points_with(
     points: &mut Vec<u32>,
     alloc: Global,
@@ -104,7 +104,7 @@ fn add_points_with(
     add_code_points(points, alloc, address_map, module_info, procedures)
 }
 
-// Adds the change points of a module's records. A module whose symbols have a fault has no procedures.
+// Adds the change points of a module's records. If its symbols end early, it has no procedures.
 fn add_own_points(
     points: &mut Vec<u32>,
     alloc: Global,
@@ -157,7 +157,7 @@ fn add_listed_points(
     }
 }
 
-// Adds the change points of what the records hold of a module.
+// Adds the change points of a module, if its records can be read.
 fn add_answer_points(
     points: &mut Vec<u32>,
     alloc: Global,

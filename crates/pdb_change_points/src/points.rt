@@ -1,4 +1,4 @@
-//! The addresses at which records start and end, each added to a list.
+//! Adds the addresses at which records start and end to a list.
 
 ghost use Rattle.std.specs.Prelude.{◌≡◌, ◌+◌, ◌++◌, map, OnOk};
 ghost use Rattle.pdb_records.specs.Addresses.{rva, rva_of};
@@ -23,14 +23,14 @@ fn add_point(points: &mut Vec<u32>, address: Option<Rva>) -> Result<(), AllocErr
     Ok(())
 }
 
-// The address of the first byte after so many bytes, where it fits 32 bits.
+// The address just after `size` bytes, if it fits 32 bits.
 fn end_of(start: u32, size: u32) -> Option<Rva>
     ensures { result ≡ rva_of (start + size) }
 {
     Some(Rva(start.checked_add(size)?))
 }
 
-// The address at an offset in a section.
+// The address of an offset in a section.
 fn address_at(address_map: &AddressMap, section: u16, offset: u64) -> Option<Rva>
     ensures { result ≡ rva address_map.now (record { section = section; offset = offset }) }
 {
@@ -38,7 +38,7 @@ fn address_at(address_map: &AddressMap, section: u16, offset: u64) -> Option<Rva
     PdbInternalSectionOffset { section, offset }.to_rva(address_map)
 }
 
-// Adds the address at an offset in a section.
+// Adds the address of an offset in a section.
 fn add_offset(
     points: &mut Vec<u32>,
     address_map: &AddressMap,
@@ -50,7 +50,7 @@ fn add_offset(
     add_point(points, address_at(address_map, section, offset))
 }
 
-// Adds the addresses at two offsets in a section.
+// Adds the addresses of two offsets in a section.
 fn add_span(
     points: &mut Vec<u32>,
     address_map: &AddressMap,
@@ -65,7 +65,7 @@ fn add_span(
     add_offset(points, address_map, section, end)
 }
 
-// Adds where the ranges of the address map start and end.
+// Adds the starts and ends of the address map's ranges.
 pub(crate) fn add_map_points(
     points: &mut Vec<u32>,
     address_map: &AddressMap,
@@ -80,7 +80,7 @@ pub(crate) fn add_map_points(
     Ok(())
 }
 
-// Adds where merged contributions start and end.
+// Adds the starts and ends of merged contributions.
 pub(crate) fn add_contribution_points(
     points: &mut Vec<u32>,
     address_map: &AddressMap,
@@ -97,7 +97,7 @@ pub(crate) fn add_contribution_points(
     Ok(())
 }
 
-// Adds where global functions start.
+// Adds the starts of global functions.
 pub(crate) fn add_global_points(
     points: &mut Vec<u32>,
     address_map: &AddressMap,
@@ -113,7 +113,7 @@ pub(crate) fn add_global_points(
     Ok(())
 }
 
-// Adds where procedures start and end.
+// Adds the starts and ends of procedures.
 pub(crate) fn add_procedure_points(
     points: &mut Vec<u32>,
     address_map: &AddressMap,
@@ -164,7 +164,7 @@ pub(crate) fn add_entry_points(
     Ok(())
 }
 
-// Adds where inline ranges in a section start and end.
+// Adds the starts and ends of inline ranges in a section.
 pub(crate) fn add_range_points(
     points: &mut Vec<u32>,
     address_map: &AddressMap,

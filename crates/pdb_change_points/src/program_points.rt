@@ -1,4 +1,4 @@
-//! The change points of a program's records, as a list.
+//! Lists the change points of a program's records.
 
 ghost use Rattle.std.specs.Prelude.{◌≡◌, ◌≢◌, ◌++◌, map, [], IfOk, IfErr, OnOk, MatchResult, Some, slice_get};
 ghost use Rattle.std.specs.List.Sorted.{IsStrictlyIncreasing};
@@ -97,7 +97,7 @@ fn points_of_parts(
     Ok(points)
 }
 
-// What a stream holds.
+// The content of a stream, or the error of one that can't be read.
 fn read<T>(stream: &Result<T, StreamError>) -> Result<&T>
     ensures { Gives (λ content. content.now) result (streamed stream.now) }
 {
@@ -107,7 +107,7 @@ fn read<T>(stream: &Result<T, StreamError>) -> Result<&T>
     }
 }
 
-// The headers of the sections. Records without any have an empty list.
+// The section headers; empty if the records have none.
 fn sections_of(records: &PDB) -> Result<&[ImageSectionHeader]>
     ensures { Gives (λ s. s.now) result (sections_read records.now) }
 {
@@ -120,13 +120,13 @@ fn sections_of(records: &PDB) -> Result<&[ImageSectionHeader]>
 
 /// The change points of a program's records, in ascending order and each once. The first is 0.
 ///
-/// At all addresses from one change point up to the next, the contribution is the same, and so are the function that is
-/// found, the name of its symbol, and the frames.
+/// All addresses from one change point up to the next have the same contribution, the same function, the same name of
+/// its symbol, and the same frames.
 ///
 /// # Errors
 ///
-/// Answers `OutOfMemory` if memory runs out. If no context can be made over the records, this may be refused with
-/// [`Error::PdbError`] for a stream that could not be read, or with an error of
+/// `OutOfMemory` if memory runs out. If no context can be made over the records, the result may be [`Error::PdbError`]
+/// for a stream that can't be read, or an error of
 /// [`compute_section_contributions`](pdb_functions::compute_section_contributions).
 pub fn change_points(alloc: Global, records: &PDB) -> Result<Vec<u32>>
     ensures answer { (flags : TypeFormatterFlags) (inputs : ContextInputs Records)

@@ -5,27 +5,27 @@ use Rattle.std.specs.Prelude.{ℕ}
 abbrev pub ba_op_invalid : ℕ
 ba_op_invalid = 0
 
--- the code goes on after the function's start
+-- moves the code offset, counted from the function's start
 abbrev pub ba_op_code_offset : ℕ
 ba_op_code_offset = 1
 
--- names the chunk of code that follows
+-- changes to another chunk of the function's code
 abbrev pub ba_op_change_code_offset_base : ℕ
 ba_op_change_code_offset_base = 2
 
--- the code goes on further, and a row starts there
+-- advances the code offset, and starts a row there
 abbrev pub ba_op_change_code_offset : ℕ
 ba_op_change_code_offset = 3
 
--- how long the row before is
+-- sets the length of the last row
 abbrev pub ba_op_change_code_length : ℕ
 ba_op_change_code_length = 4
 
--- the file of the rows after
+-- sets the file of the following rows
 abbrev pub ba_op_change_file : ℕ
 ba_op_change_file = 5
 
--- the line changes
+-- changes the line
 abbrev pub ba_op_change_line_offset : ℕ
 ba_op_change_line_offset = 6
 
@@ -37,11 +37,11 @@ ba_op_change_line_end_delta = 7
 abbrev pub ba_op_change_column_end_delta : ℕ
 ba_op_change_column_end_delta = 10
 
--- the code goes on further, and the line changes
+-- advances the code offset and changes the line, and starts a row
 abbrev pub ba_op_change_code_offset_and_line_offset : ℕ
 ba_op_change_code_offset_and_line_offset = 11
 
--- how long a row is, and how much further it starts
+-- starts a row with this length, after advancing the code offset
 abbrev pub ba_op_change_code_length_and_code_offset : ℕ
 ba_op_change_code_length_and_code_offset = 12
 

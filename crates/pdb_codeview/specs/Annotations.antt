@@ -1,4 +1,4 @@
--- Binary annotations: the list that says where the code and the lines of an inlined body go on.
+-- Binary annotations: the list that maps the code of an inlined body to lines.
 use Rattle.std.specs.Option.{ok_or, option_map_or}
 use Rattle.std.specs.Prelude.{ℕ, ◌/◌, ◌%◌, ◌==◌, ◌&&◌, nat_le, List, [], drop, Option, Result, Ok, Err, if◌then◌else◌}
 use Rattle.pdb_records.specs.Readings.{Read}
@@ -17,22 +17,22 @@ use Rattle.pdb_codeview.specs.declared.annotations.Annotation.{Annotation}
 use Rattle.pdb_codeview.specs.declared.annotations.Annotation.TheVariants.{Advance, AdvanceAndLine, Chunk, File}
 use Rattle.pdb_codeview.specs.declared.annotations.Annotation.TheVariants.{Length, LengthAndAdvance, Line, Other, Start}
 
--- the compressed number that these bytes begin with, or that they begin with none
+-- the compressed number at the start of these bytes, or the fault that there is none
 abbrev pub first_number : List ℕ → Result ℕ StreamError
 first_number bytes = ok_or (compressed bytes) BAD_NUMBER
 
--- what stands after the compressed number that these bytes begin with
+-- the bytes after the compressed number at their start
 abbrev pub behind_number : List ℕ → List ℕ
 behind_number bytes = drop (width bytes) bytes
 
--- what ChangeCodeOffsetBase says, by where the chunk of each number starts: the main code, 0, is where reading begins,
--- and another chunk is followed if it is there
+-- the annotation of a ChangeCodeOffsetBase. Number 0 means the main code, where reading begins; for another number,
+-- `chunk` gives the start of the chunk if it is known
 abbrev pub of_chunk : (ℕ → Option ℕ) → ℕ → Result Annotation StreamError
 of_chunk chunk number = if number == 0 then Ok Other else option_map_or (λ start. Ok (Chunk start)) (chunk number) (Err APART)
 
--- an annotation of one number by its kind, and by where the chunks of its function start; where code and line change
--- together, the lowest four bits are the code's offset and the others the line's; of the kinds from
--- ChangeLineEndDelta to ChangeColumnEndDelta, and of ChangeColumnEnd, rows show nothing
+-- an annotation with one number, by its kind; `chunk` gives the start of each chunk. If code and line change together,
+-- the lowest four bits are the change of the code offset and the others that of the line. Rows ignore ChangeColumnEnd
+-- and the kinds from ChangeLineEndDelta to ChangeColumnEndDelta
 abbrev pub of_one_number : (ℕ → Option ℕ) → ℕ → ℕ → Result Annotation StreamError
 of_one_number chunk kind number =
     if kind == ba_op_code_offset then Ok (Start number) else
@@ -46,14 +46,14 @@ of_one_number chunk kind number =
     if kind == ba_op_change_column_end then Ok Other else
     Err BAD_NUMBER
 
--- an annotation of two numbers, ChangeCodeLengthAndCodeOffset, by the first of them, the length, and the bytes
--- after it, which begin with the offset; and what stands after it
+-- the annotation with two numbers, ChangeCodeLengthAndCodeOffset: `length` is the first number, and the bytes begin
+-- with the second, the offset. With the bytes after it
 abbrev pub of_two_numbers : ℕ → List ℕ → Result (Annotation × List ℕ) StreamError
 of_two_numbers length bytes = do
   offset ← first_number bytes
   Ok (LengthAndAdvance length offset, behind_number bytes)
 
--- the annotation of a kind whose numbers these bytes begin with, and what stands after it
+-- the annotation of this kind, whose numbers are at the start of the bytes; and the bytes after it
 abbrev pub annotation_of : (ℕ → Option ℕ) → ℕ → List ℕ → Result (Annotation × List ℕ) StreamError
 annotation_of chunk kind bytes = do
   number ← first_number bytes
@@ -61,8 +61,8 @@ annotation_of chunk kind bytes = do
     annotation ← of_one_number chunk kind number
     Ok (annotation, behind_number bytes))
 
--- the annotation that stands first, and what stands after it: its kind, and its numbers after that; one of the kind
--- Invalid ends the list, so that nothing stands after it, and rows show nothing of it
+-- the first annotation, which is its kind and then its numbers; and the bytes after it. The kind Invalid ends the list,
+-- and rows ignore it
 abbrev pub first_annotation : (ℕ → Option ℕ) → List ℕ → Result (Annotation × List ℕ) StreamError
 first_annotation chunk bytes = do
   kind ← first_number bytes

@@ -1,21 +1,21 @@
--- Compressed numbers, as annotations have them.
+-- The compressed numbers of binary annotations.
 use Rattle.std.specs.Prelude.{ℕ, ◌+◌, ◌-◌, ◌*◌, ◌==◌, nat_lt, List, [], ◌∷◌, length, slice_index, Option, Some, None}
 use Rattle.std.specs.Prelude.{if◌then◌else◌}
 
--- how many bytes a number has, by the highest bits of its first byte: one for 0, two for 10, four for 110; no number
--- begins with 111
+-- the number of bytes of a compressed number, by the highest bits of its first byte: one for 0, two for 10, four for
+-- 110; no number begins with 111
 abbrev pub width_by : ℕ → ℕ
 width_by first =
     if nat_lt first 128 then 1 else
     if nat_lt first 192 then 2 else
     if nat_lt first 224 then 4 else 0
 
--- how many bytes the number has that these begin with
+-- the number of bytes of the compressed number at the start of these bytes
 abbrev pub width : List ℕ → ℕ
 width [] = 0
 width (first ∷ rest) = width_by first
 
--- the number in so many bytes: the bits after the highest ones, the highest byte first
+-- the compressed number in `size` bytes: the bits after the width bits, highest byte first
 abbrev pub number_in : ℕ → List ℕ → Option ℕ
 number_in size bytes =
     if size == 1 then Some (slice_index bytes 0) else
@@ -25,6 +25,6 @@ number_in size bytes =
     + slice_index bytes 3)
     else None
 
--- the number that these bytes begin with, where they are long enough and begin with one
+-- the compressed number at the start of these bytes; absent if it is cut or its first byte begins with 111
 abbrev pub compressed : List ℕ → Option ℕ
 compressed bytes = if nat_lt (length bytes) (width bytes) then None else number_in (width bytes) bytes

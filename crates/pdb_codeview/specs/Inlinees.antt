@@ -1,4 +1,4 @@
--- The functions whose bodies stand in a module's code.
+-- The functions that are inlined in a module's code.
 use Rattle.std.specs.Prelude.{ℕ, ◌*◌, ◌==◌, ◌||◌, nat_lt, List, take, drop, length, find, Option, None, Some}
 use Rattle.std.specs.Prelude.{option_map, Result, Ok, Err, if◌then◌else◌}
 use Rattle.pdb_records.specs.Readings.{Read}
@@ -12,8 +12,8 @@ use Rattle.pdb_msf.specs.ItemLists.{all_items, concatenated}
 use Rattle.pdb_codeview.specs.declared.inlinees.InlineeSource.{InlineeSource}
 use Rattle.pdb_codeview.specs.declared.inlinees.ListedInlinee.{ListedInlinee}
 
--- where the source of the function with this id starts, its file and its line (fileId and sourceLineNum): of several
--- entries with one id the first that is read counts
+-- the file and line (fileId and sourceLineNum) of the function with this id; of several entries with one id, the first
+-- counts
 abbrev pub inlinee_source : ℕ → List ListedInlinee → Option InlineeSource
 inlinee_source id listed = option_map (λ inlinee. inlinee.source) (find (λ inlinee. inlinee.id == id) listed)
 
@@ -24,7 +24,7 @@ listed_inlinee bytes = record {
   source = record { file = number (drop 4 bytes); line = number (drop 8 bytes) };
 }
 
--- what stands after the further files of an entry (InlineeSourceLineEx): countOfExtraFiles, and an extraFileId of four
+-- the bytes after the extra files of an entry (InlineeSourceLineEx): countOfExtraFiles, and an extraFileId of four
 -- bytes for each
 abbrev pub behind_files : List ℕ → Result (List ℕ) StreamError
 behind_files bytes =
@@ -32,18 +32,19 @@ behind_files bytes =
     if nat_lt (length (drop 4 bytes)) (4 * number bytes) then Err CUT else
     Ok (drop (4 * number bytes) (drop 4 bytes))
 
--- what stands after the twelve bytes of an entry, in a list of this form: entries of the form 1 have further files
+-- the bytes after an entry of a list of this form, by the bytes after its first twelve; an entry of form 1 has extra
+-- files there
 abbrev pub behind_inlinee : ℕ → List ℕ → Result (List ℕ) StreamError
 behind_inlinee form bytes = if form == 1 then behind_files bytes else Ok bytes
 
--- the entry that stands first in a list of this form, and what stands after it
+-- the first entry in a list of this form, and the bytes after it
 abbrev pub first_inlinee : ℕ → List ℕ → Result (ListedInlinee × List ℕ) StreamError
 first_inlinee form bytes = if nat_lt (length bytes) 12 then Err CUT else (do
   rest ← behind_inlinee form (drop 12 bytes)
   Ok (listed_inlinee (take 12 bytes), rest))
 
--- the entries of a subsection of inlinees (DEBUG_S_INLINEELINES): its form, the signature, stands in front, 0 for
--- InlineeSourceLine or 1 for InlineeSourceLineEx; without bytes there are none
+-- the entries of a subsection of inlinees (DEBUG_S_INLINEELINES). It begins with its form, the signature: 0 for
+-- InlineeSourceLine or 1 for InlineeSourceLineEx. An empty subsection has no entries
 abbrev pub inlinees_in : List ℕ → Read ListedInlinee
 inlinees_in bytes =
     if length bytes == 0 then nothing_read None else
@@ -51,10 +52,10 @@ inlinees_in bytes =
     if (number bytes == 0) || (number bytes == 1) then all_items (first_inlinee (number bytes)) (drop 4 bytes) else
     nothing_read (Some UNKNOWN_VERSION)
 
--- the entries of several subsections, one after the other up to the first fault
+-- the entries of several subsections in order, up to the first fault
 abbrev pub all_inlinees : List (List ℕ) → Read ListedInlinee
 all_inlinees subsections = concatenated inlinees_in subsections
 
--- an entry by its id alone
+-- an entry with only its id
 abbrev pub inlinee : ListedInlinee → Inlinee
 inlinee listed = record { index = record { 0 = listed.id } }

@@ -1,4 +1,4 @@
--- The entries of a module's line program, by its subsections of lines and its procedures.
+-- The entries of a module's line program, from its subsections of lines and its procedures.
 use Rattle.std.specs.Prelude.{ℕ, ◌+◌, ◌-◌, ◌^◌, ◌==◌, ◌&&◌, Bool, false, min, nat_lt, nat_le, List, [], ◌∷◌, ◌++◌, map}
 use Rattle.std.specs.Prelude.{if◌then◌else◌}
 use Rattle.pdb_tables.specs.InOrder.{in_order}
@@ -11,27 +11,27 @@ use Rattle.pdb_codeview.specs.LineRows.{rows_with_bytes, rows_from, rows_between
 use Rattle.pdb_codeview.specs.Places.{place, stands_before, first_of_each_place, from_last, front}
 use Rattle.pdb_codeview.specs.ProcedureSpans.{row_bounds}
 
--- the first of the procedures starts at this place
+-- whether the first procedure starts at this place
 abbrev pub starts_at : ℕ → List RowBounds → Bool
 starts_at x [] = false
 starts_at x (bounds ∷ others) = place bounds.start == x
 
--- the procedures without the first one, where that starts at a place or before it
+-- the procedures, without the first one if it starts at or before a place
 abbrev pub starts_behind : ℕ → List RowBounds → List RowBounds
 starts_behind x [] = []
 starts_behind x (bounds ∷ others) = if nat_le (place bounds.start) x then others else bounds ∷ others
 
--- where a subsection ends, in bytes from its section's start
+-- the end of a subsection, as an offset in its section
 abbrev pub subsection_end : LineSubsection → ℕ
 subsection_end subsection = subsection.offset.offset + subsection.size
 
--- a procedure starts in the bytes of a subsection, and before the next subsection does
+-- whether a procedure starts in the bytes of a subsection, and before the next subsection
 abbrev pub starts_in : LineSubsection → ℕ → RowBounds → Bool
 starts_in subsection next bounds =
     (bounds.start.section == subsection.offset.section) && nat_lt bounds.start.offset (subsection_end subsection)
     && nat_lt (place bounds.start) next
 
--- the entry of a subsection itself: where a procedure starts there too, the first row begins with it
+-- the entry of a subsection itself; if a procedure starts at the same place, the first row begins with it
 abbrev pub subsection_entry : LineSubsection → List LineInfo → List RowBounds → SymbolLines
 subsection_entry subsection rows here = record {
   offset = subsection.offset;
@@ -41,7 +41,7 @@ subsection_entry subsection rows here = record {
   };
 }
 
--- the entry of a procedure that starts in a subsection: the rows over its bytes there
+-- the entry of a procedure that starts in a subsection: the rows over its bytes
 abbrev pub procedure_entry : LineSubsection → List LineInfo → RowBounds → SymbolLines
 procedure_entry subsection rows bounds = record {
   offset = bounds.start;
@@ -51,20 +51,20 @@ procedure_entry subsection rows bounds = record {
   };
 }
 
--- the entries of a subsection, of procedures from the last one on that starts where it does or before it: its own, and
--- one for each procedure that starts further on in it
+-- the entries of a subsection: its own, and one for each procedure that starts further on in it. The procedures are
+-- those from the last one that starts at or before the subsection's start
 abbrev pub subsection_entries : LineSubsection → ℕ → List RowBounds → List SymbolLines
 subsection_entries subsection next here =
     subsection_entry subsection (rows_with_bytes subsection.rows.items) here
     ∷ map (procedure_entry subsection (rows_with_bytes subsection.rows.items))
     (front (starts_in subsection next) (starts_behind (place subsection.offset) here))
 
--- where the next subsection starts, or after all places where none follows
+-- the place of the next subsection, or 2 ^ 64 - 1 if there is none
 abbrev pub next_place : List LineSubsection → ℕ
 next_place [] = 2 ^ 64 - 1
 next_place (subsection ∷ subsections) = place subsection.offset
 
--- the entries of subsections by start, each with those of the procedures in it
+-- the entries of subsections sorted by start, each with those of the procedures in it
 abbrev pub entries_of : List RowBounds → List LineSubsection → List SymbolLines
 entries_of bounds [] = []
 entries_of bounds (subsection ∷ subsections) =
@@ -72,7 +72,7 @@ entries_of bounds (subsection ∷ subsections) =
     (from_last (λ b. place b.start) (place subsection.offset) bounds)
     ++ entries_of bounds subsections
 
--- the entries of a module: of each start one procedure counts, the first that is read
+-- the entries of a module; of several procedures with one start, only the first in reading order counts
 abbrev pub program_entries : List LineSubsection → List ProcedureSpan → List SymbolLines
 program_entries subsections procedures =
     entries_of (row_bounds 0 (first_of_each_place (λ span. place span.start) procedures))

@@ -1,4 +1,4 @@
--- The code of a module's procedures, and how far the rows of each reach.
+-- The code ranges of a module's procedures, and how far the rows of each reach.
 use Rattle.std.specs.Prelude.{ℕ, ◌+◌, ◌==◌, min, max, nat_lt, List, [], ◌∷◌, Option, Some, None, if◌then◌else◌}
 use Rattle.std.specs.List.{filter_map}
 use Rattle.pdb_records.specs.declared.addresses.PdbInternalSectionOffset.{PdbInternalSectionOffset}
@@ -9,26 +9,26 @@ use Rattle.pdb_codeview.specs.declared.procedure_spans.ProcedureSpan.{ProcedureS
 use Rattle.pdb_codeview.specs.declared.procedure_spans.RowBounds.{RowBounds}
 use Rattle.pdb_codeview.specs.Places.{place}
 
--- so many bytes from a start on, where there are any
+-- the range of `len` bytes from a start on; absent if `len` is 0
 abbrev pub span : PdbInternalSectionOffset → ℕ → Option ProcedureSpan
 span start len = if nat_lt 0 len then Some (record { start = start; len = len }) else None
 
--- the code that a symbol's content says of: a procedure's, a thunk's, or code apart from its procedure
+-- the code range of a symbol: a procedure, a thunk, or separated code
 abbrev pub span_of : Option SymbolData → Option ProcedureSpan
 span_of (Some (Procedure s)) = span s.offset s.len
 span_of (Some (SeparatedCode s)) = span s.offset s.len
 span_of (Some (Thunk s)) = span s.offset s.len
 span_of content = None
 
--- the code of the procedures that symbols show, in reading order
+-- the code ranges of symbols, in reading order
 abbrev pub symbol_spans : List Symbol → List ProcedureSpan
 symbol_spans symbols = filter_map (λ symbol. span_of symbol.content) symbols
 
--- where a procedure ends, in bytes from its section's start
+-- the end of a procedure, as an offset in its section
 abbrev pub end_of : ProcedureSpan → ℕ
 end_of span = span.start.offset + span.len
 
--- where the procedure ends, or where the next one starts, whichever is first
+-- the end of a procedure, or the start of the next one if that is lower
 abbrev pub end_before : ProcedureSpan → List ProcedureSpan → ℕ
 end_before span [] = end_of span
 end_before span (next ∷ spans) =
@@ -38,8 +38,8 @@ end_before span (next ∷ spans) =
 abbrev pub place_behind : ProcedureSpan → ℕ
 place_behind span = place span.start + span.len
 
--- how far the rows of each procedure reach, of procedures by start, those before them ending at a place: to its end; of
--- one that starts inside of one before it no further than the next one's start
+-- how far the rows of each procedure reach, for procedures sorted by start; `reach` is the end of those before. Rows
+-- reach to the procedure's end, but those of a procedure that starts inside an earlier one end at the next one's start
 abbrev pub row_bounds : ℕ → List ProcedureSpan → List RowBounds
 row_bounds reach [] = []
 row_bounds reach (span ∷ spans) =

@@ -1,4 +1,4 @@
--- Symbols: what the content of each kind that is read says. Places are counted from after reclen and rectyp.
+-- Symbols: the fields of each kind that is read. Offsets count from after reclen and rectyp.
 use Rattle.std.specs.Prelude.{ℕ, ◌==◌, ◌||◌, nat_lt, List, [], ◌∷◌, drop, length, map, Option, Some, None, option_map}
 use Rattle.std.specs.Prelude.{if◌then◌else◌}
 use Rattle.pdb_records.specs.Readings.{Read}
@@ -23,17 +23,17 @@ public_symbol symbol = option_map (λ name. Public (record {
   name = name;
 })) (name_behind 10 symbol)
 
--- where a procedure of this kind has its name: at 35 (PROCSYM32); at 37 in code for Itanium (PROCSYMIA64) and in managed
--- code (MANPROCSYM), which say retReg too
+-- the offset of the name in a procedure of this kind: 35 (PROCSYM32), or 37 in code for Itanium (PROCSYMIA64) and in
+-- managed code (MANPROCSYM), which also have retReg
 abbrev pub procedure_name_place : ℕ → ℕ
 procedure_name_place raw_kind = if is_itanium_kind raw_kind || is_managed_kind raw_kind then 37 else 35
 
--- the type of a procedure: typind at 24, where managed code has a token, and so no type, which is 0
+-- the type of a procedure: typind at 24. Managed code has a token there, so its type is 0, no type
 abbrev pub procedure_type : SymbolBytes → TypeIndex
 procedure_type symbol =
     if is_managed_kind symbol.raw_kind then record { 0 = 0 } else record { 0 = number (drop 24 symbol.content) }
 
--- a procedure of a list of symbols (PROCSYM32, PROCSYMIA64 and MANPROCSYM): pEnd at 4, len at 12, its type, off at 28,
+-- a procedure in a list of symbols (PROCSYM32, PROCSYMIA64 and MANPROCSYM): pEnd at 4, len at 12, its type, off at 28,
 -- seg at 32, and the name
 abbrev pub procedure : List SymbolBytes → SymbolBytes → Option SymbolData
 procedure symbols symbol = option_map (λ name. Procedure (record {
@@ -44,8 +44,7 @@ procedure symbols symbol = option_map (λ name. Procedure (record {
   type_index = procedure_type symbol;
 })) (name_behind (procedure_name_place symbol.raw_kind) symbol)
 
--- a thunk of a list of symbols (THUNKSYM32): pEnd at 4, off at 12, seg at 16, len in two bytes at 18, and the name
--- at 21
+-- a thunk in a list of symbols (THUNKSYM32): pEnd at 4, off at 12, seg at 16, a two-byte len at 18, and the name at 21
 abbrev pub thunk : List SymbolBytes → SymbolBytes → Option SymbolData
 thunk symbols symbol = option_map (λ name. Thunk (record {
   offset = section_offset 12 16 symbol.content;
@@ -54,7 +53,7 @@ thunk symbols symbol = option_map (λ name. Thunk (record {
   end = position_at symbols (number (drop 4 symbol.content));
 })) (name_behind 21 symbol)
 
--- separated code of a list of symbols (SEPCODESYM), 28 bytes: pEnd at 4, length at 8, off at 16, offParent at 20, sect
+-- separated code in a list of symbols (SEPCODESYM), 28 bytes: pEnd at 4, length at 8, off at 16, offParent at 20, sect
 -- at 24 and sectParent at 26
 abbrev pub separated_code : List SymbolBytes → SymbolBytes → Option SymbolData
 separated_code symbols symbol =
@@ -66,8 +65,8 @@ separated_code symbols symbol =
       end = position_at symbols (number (drop 4 symbol.content));
     }))
 
--- a jump (TRAMPOLINESYM), 16 bytes, is code apart from what it leads to: cbThunk in two bytes at 2, offThunk at 4,
--- offTarget at 8, sectThunk at 12 and sectTarget at 14; no symbol closes it
+-- a jump (TRAMPOLINESYM), 16 bytes, as code separated from its target: a two-byte cbThunk at 2, offThunk at 4,
+-- offTarget at 8, sectThunk at 12 and sectTarget at 14. It has no end symbol
 abbrev pub trampoline : SymbolBytes → Option SymbolData
 trampoline symbol =
     if nat_lt (length symbol.content) 16 then None else
@@ -78,8 +77,8 @@ trampoline symbol =
       end = record { 0 = 0 };
     }))
 
--- an inline site of a list of symbols in code at a place (INLINESITESYM and INLINESITESYM2): pEnd at 4, inlinee at 8,
--- and binaryAnnotations after 12 bytes, or after 16, since invocations stand before them
+-- an inline site in a list of symbols (INLINESITESYM and INLINESITESYM2), in this code: pEnd at 4, inlinee at 8, and
+-- binaryAnnotations after 12 bytes, or after 16 in INLINESITESYM2, which has invocations before them
 abbrev pub inline_site : ModuleCode → List SymbolBytes → ℕ → CodePlace → SymbolBytes → Option SymbolData
 inline_site code symbols size at symbol =
     if nat_lt (length symbol.content) size then None else
@@ -90,22 +89,22 @@ inline_site code symbols size at symbol =
           (drop size symbol.content);
     }))
 
--- what a symbol of the whole program holds: of these public symbols alone are looked into
+-- the content of a global symbol; only public symbols are parsed
 abbrev pub global_content : SymbolBytes → Option SymbolData
 global_content symbol = if is_public_kind symbol.raw_kind then public_symbol symbol else Some Other
 
--- a symbol of the whole program
+-- a global symbol
 abbrev pub global_symbol : SymbolBytes → Symbol
 global_symbol symbol = record { raw_kind = symbol.raw_kind; content = global_content symbol }
 
--- the symbols of the whole program, which stand in a stream of their own
+-- the global symbols, which have a stream of their own
 abbrev pub global_symbols : List ℕ → Read Symbol
 global_symbols stream = record {
   items = map global_symbol (symbol_records 0 stream).items;
   fault = (symbol_records 0 stream).fault;
 }
 
--- what a symbol of a module's list holds, by its kind, after code at a place
+-- the content of a symbol in a module's list, by its kind; `at` is the code before it
 abbrev pub module_content : ModuleCode → List SymbolBytes → CodePlace → SymbolBytes → Option SymbolData
 module_content code symbols at symbol =
     if is_procedure_kind (recorded_kind symbol.raw_kind) then procedure symbols symbol else
@@ -117,13 +116,13 @@ module_content code symbols at symbol =
     if symbol.raw_kind == s_inlinesite2 then inline_site code symbols 16 at symbol else
     global_content symbol
 
--- the code that sites after a symbol stand in: the symbol's, where it is a procedure, or separated code of a function
+-- the code that has the inline sites after a symbol: a procedure or separated code, otherwise the code before it
 abbrev pub code_place : Option SymbolData → CodePlace → CodePlace
 code_place (Some (Procedure symbol)) before = record { start = symbol.offset; function = symbol.offset }
 code_place (Some (SeparatedCode symbol)) before = record { start = symbol.offset; function = symbol.parent_offset }
 code_place content before = before
 
--- the last symbols of a module's list, after code at a place
+-- the symbols from here on in a module's list; `at` is the code before them
 abbrev pub symbols_from : ModuleCode → List SymbolBytes → CodePlace → List SymbolBytes → List Symbol
 symbols_from code symbols at [] = []
 symbols_from code symbols at (symbol ∷ rest) =
@@ -131,11 +130,11 @@ symbols_from code symbols at (symbol ∷ rest) =
     record { raw_kind = recorded_kind symbol.raw_kind; content = content }
     ∷ symbols_from code symbols (code_place content at) rest
 
--- in front of all code, at the offset 0 of no section
+-- the code before the first symbol: none, as offset 0 of section 0
 abbrev pub no_code : CodePlace
 no_code = record { start = record { section = 0; offset = 0 }; function = record { section = 0; offset = 0 } }
 
--- the symbols of a module, by the bytes of their list, with so many bytes before it in the module's stream
+-- the symbols of a module, by the bytes of their list, which starts `front` bytes into the module's stream
 abbrev pub module_symbols : ModuleCode → ℕ → List ℕ → Read Symbol
 module_symbols code front bytes = record {
   items = symbols_from code (symbol_records front bytes).items no_code (symbol_records front bytes).items;

@@ -1,45 +1,45 @@
--- Kinds of symbols that only this crate looks at, by their published numbers (S_.. of cvinfo.h).
+-- Kinds of symbols that only this crate uses, by their published numbers (S_.. of cvinfo.h).
 use Rattle.std.specs.Prelude.{ℕ, ◌==◌, ◌||◌, Bool, if◌then◌else◌}
 use Rattle.pdb_records.specs.SymbolKinds.{s_gproc32, s_lproc32}
 
--- a record that holds space free
+-- a record that reserves space
 abbrev pub s_skip : ℕ
 s_skip = 0x0007
 
--- a record that fills the space up to a place
+-- a record that pads up to an alignment
 abbrev pub s_align : ℕ
 s_align = 0x0402
 
--- a jump that leads to a function
+-- a jump to a function
 abbrev pub s_trampoline : ℕ
 s_trampoline = 0x112c
 
--- a procedure of code for Itanium that only its module sees
+-- a procedure for Itanium that is local to its module
 abbrev pub s_lprocia64 : ℕ
 s_lprocia64 = 0x1118
 
--- a procedure of code for Itanium that every module sees
+-- a procedure for Itanium that is global
 abbrev pub s_gprocia64 : ℕ
 s_gprocia64 = 0x1119
 
--- a procedure of managed code (C++/CLI) that every module sees
+-- a procedure of managed code (C++/CLI) that is global
 abbrev pub s_gmanproc : ℕ
 s_gmanproc = 0x112a
 
--- a procedure of managed code (C++/CLI) that only its module sees
+-- a procedure of managed code (C++/CLI) that is local to its module
 abbrev pub s_lmanproc : ℕ
 s_lmanproc = 0x112b
 
--- the two kinds of procedures of code for Itanium
+-- whether a kind is a procedure for Itanium
 abbrev pub is_itanium_kind : ℕ → Bool
 is_itanium_kind kind = (kind == s_lprocia64) || (kind == s_gprocia64)
 
--- the two kinds of procedures of managed code
+-- whether a kind is a procedure of managed code
 abbrev pub is_managed_kind : ℕ → Bool
 is_managed_kind kind = (kind == s_gmanproc) || (kind == s_lmanproc)
 
--- the kind that the records have for a symbol's kind: all procedures of these four kinds are procedures that every
--- module sees (S_GPROC32), or that only their own sees (S_LPROC32)
+-- the kind that the records have for a symbol's kind: procedures of these four kinds become plain global (S_GPROC32) or
+-- local (S_LPROC32) procedures
 abbrev pub recorded_kind : ℕ → ℕ
 recorded_kind kind =
     if (kind == s_gprocia64) || (kind == s_gmanproc) then s_gproc32 else

@@ -1,4 +1,4 @@
-//! The rows of an inline site, made of its annotations one after the other.
+//! Turns the annotations of an inline site into its rows.
 
 ghost use Rattle.std.specs.Prelude.{◌≡◌, IfErr, IfOk, None};
 ghost use Rattle.pdb_codeview.specs.AnnotationRows.{closed, leaves_code, lengthened, position_after, moved_line, new_row};
@@ -9,19 +9,19 @@ use pdb_msf::faults::Fault;
 use pdb_records::{FileIndex, InlineRow};
 use std::alloc::Global;
 
-/// Where reading the annotations of a site stands: in the code, and in the source.
+/// The state of reading a site's annotations: a position in the code, and one in the source.
 #[derive(Clone, Copy)]
 pub struct RowPosition {
-    /// Where the code starts that is read, a function or a chunk of one, in bytes from its section's start.
+    /// The start of the current function or chunk, in bytes from its section's start.
     pub start: u32,
-    /// Where the code goes on, in bytes from the section's start.
+    /// The current position in the code, in bytes from the section's start.
     pub offset: u32,
-    /// Where the file stands among the files of the module, in bytes.
+    /// The offset of the current file's entry in the module's subsection of files.
     pub file: u32,
     pub line: u32,
 }
 
-/// The rows of these annotations. Their files are named as the annotations name them.
+/// The rows of these annotations. Their files are still offsets of entries, as the annotations have them.
 pub fn rows_of(
     alloc: Global,
     annotations: &[Annotation],
@@ -55,7 +55,7 @@ pub fn rows_of(
     Ok(rows)
 }
 
-// Where reading stands after an annotation.
+// The state after an annotation.
 fn position_after(annotation: Annotation, position: RowPosition) -> RowPosition
     ensures { result ≡ position_after annotation position }
 {
@@ -91,7 +91,7 @@ fn position_after(annotation: Annotation, position: RowPosition) -> RowPosition
     }
 }
 
-// The line that a change leads to.
+// The line after a change. The lowest bit of the change is its sign.
 fn moved_line(line: u32, change: u32) -> u32
     ensures { result ≡ moved_line line change }
 {
@@ -102,7 +102,7 @@ fn moved_line(line: u32, change: u32) -> u32
     }
 }
 
-// Whether a row starts at this annotation.
+// Whether this annotation starts a row.
 fn starts_row(annotation: Annotation) -> bool
     ensures { result ≡ starts_row annotation }
 {
@@ -114,14 +114,14 @@ fn starts_row(annotation: Annotation) -> bool
     )
 }
 
-// Whether the code goes on elsewhere, so that no row reaches over this annotation.
+// Whether the code continues in another chunk, so that no row extends past this annotation.
 fn leaves_code(annotation: Annotation) -> bool
     ensures { result ≡ leaves_code annotation }
 {
     matches!(annotation, Annotation::Chunk(_))
 }
 
-// The length that the annotation which starts a row says of it.
+// The length of a row, if the annotation that starts it has one.
 fn own_length(annotation: Annotation) -> Option<u32>
     ensures { result ≡ own_length annotation }
 {
@@ -131,7 +131,7 @@ fn own_length(annotation: Annotation) -> Option<u32>
     }
 }
 
-// The row that starts at an annotation.
+// The row that an annotation starts.
 fn new_row(annotation: Annotation, position: RowPosition) -> InlineRow
     ensures { result ≡ new_row annotation position }
 {
@@ -143,7 +143,7 @@ fn new_row(annotation: Annotation, position: RowPosition) -> InlineRow
     }
 }
 
-// A row, with this length where it had none.
+// A row, with this length if it has none.
 fn with_length(length: Option<u32>, row: InlineRow) -> InlineRow
     ensures { result ≡ with_length length row }
 {
@@ -153,14 +153,14 @@ fn with_length(length: Option<u32>, row: InlineRow) -> InlineRow
     }
 }
 
-// The row before one that starts at this offset.
+// A row that ends where the next one starts, at this offset, if it has no length of its own.
 fn closed(offset: u32, row: InlineRow) -> InlineRow
     ensures { result ≡ closed offset row }
 {
     with_length(offset.checked_sub(row.offset), row)
 }
 
-// The last row, with the length that the annotation after it says.
+// The last row, with the length that the annotation after it may give it.
 fn lengthened(annotation: Annotation, last: Option<InlineRow>) -> Option<InlineRow>
     ensures { result ≡ lengthened annotation last }
 {

@@ -1,4 +1,4 @@
-//! The annotations of an inline site: compressed numbers that say where its code and its lines go on.
+//! Reads the binary annotations of an inline site: compressed numbers that say how its code and its lines continue.
 
 ghost use Rattle.std.specs.Prelude.{◌≡◌, MatchResult, OnOk, Ok, Err};
 ghost use Rattle.pdb_codeview.specs.Annotations.{annotation_of, behind_number, first_number, of_chunk, of_one_number};
@@ -34,32 +34,33 @@ const CODE_LENGTH_AND_CODE_OFFSET: u32 = 12;
 
 const COLUMN_END: u32 = 13;
 
-/// A step of the list that says where the code of an inlined body stands, and of which lines it is.
+/// A step in the description of an inlined body's code and lines.
 #[derive(Clone, Copy)]
 pub enum Annotation {
-    /// The code goes on so many bytes after the function's start.
+    /// The code continues this many bytes after the function's start.
     Start(u32),
-    /// The code goes on so many bytes further, and a row starts there.
+    /// The code continues this many bytes further on, and a row starts there.
     Advance(u32),
-    /// The row before is so long, and the code goes on after it.
+    /// The row before has this length in bytes, and the code continues after it.
     Length(u32),
-    /// The rows that follow come from this file.
+    /// The following rows come from this file.
     File(u32),
-    /// The line changes by this much, of which the lowest bit is the sign.
+    /// The line changes by this number, whose lowest bit is the sign.
     Line(u32),
-    /// The line changes by the second number, and the code goes on as many bytes further as the first
-    /// says; a row starts there.
+    /// The line changes by the second number. The code continues as many bytes further on as the first says, and a row
+    /// starts there.
     AdvanceAndLine(u32, u32),
-    /// The code goes on as many bytes further as the second number says, and a row starts there that is
-    /// as long as the first says.
+    /// The code continues as many bytes further on as the second number says. A row starts there whose length is the
+    /// first number.
     LengthAndAdvance(u32, u32),
-    /// The code goes on in separated code that starts at this offset of its section.
+    /// The code continues in a chunk that starts at this offset of its section.
     Chunk(u32),
-    /// Nothing that rows show.
+    /// An annotation that doesn't affect rows.
     Other,
 }
 
-/// The annotations of a site in code of this section, whose function has these chunks. One of the kind 0 ends them.
+/// Reads the annotations of a site in code of this section, whose function has these chunks. An annotation of kind 0
+/// ends the list.
 #[derive(Drop)]
 pub(crate) struct Annotations<'a> {
     pub(crate) section: u16,
@@ -84,7 +85,7 @@ impl<'a> ItemReader<'a> for Annotations<'a> {
     }
 }
 
-// The annotation of this kind in such a list, with its numbers.
+// Reads an annotation of this kind, with its numbers.
 fn take_annotation(
     list: &Annotations<'_>,
     kind: u32,
@@ -103,7 +104,7 @@ fn take_annotation(
     of_one_number(list, kind, number)
 }
 
-// The annotation of this kind in such a list, where it has one number.
+// The annotation of this kind with one number.
 fn of_one_number(list: &Annotations<'_>, kind: u32, number: u32) -> Result<Annotation, StreamError>
     ensures { result ≡ of_one_number (numbered_start list.now.section list.now.chunks.now) kind number }
 {
@@ -120,7 +121,7 @@ fn of_one_number(list: &Annotations<'_>, kind: u32, number: u32) -> Result<Annot
     }
 }
 
-// The annotation of such a list that names the chunk of this number. The number 0 is the main code.
+// The annotation that moves to the chunk with this number. The number 0 means the main code.
 fn of_chunk(list: &Annotations<'_>, number: u32) -> Result<Annotation, StreamError>
     ensures { result ≡ of_chunk (numbered_start list.now.section list.now.chunks.now) number }
 {
@@ -133,7 +134,7 @@ fn of_chunk(list: &Annotations<'_>, number: u32) -> Result<Annotation, StreamErr
     }
 }
 
-// The next compressed number.
+// Reads the next compressed number.
 fn take_number(rest: &mut Bytes<'_>) -> Result<u32, StreamError>
     ensures answer { MatchResult result (λ number. first_number rest.old ≡ Ok number)
         (λ error. first_number rest.old ≡ Err error) }
@@ -147,7 +148,7 @@ fn take_number(rest: &mut Bytes<'_>) -> Result<u32, StreamError>
     Ok(number)
 }
 
-// How many bytes the number has that these begin with: its first byte says.
+// The size of a compressed number in bytes, by its first byte; 0 if that is invalid.
 fn width(bytes: &[u8]) -> usize
     ensures { result ≡ width bytes.now }
 {
@@ -160,7 +161,7 @@ fn width(bytes: &[u8]) -> usize
     }
 }
 
-// The number that these bytes begin with.
+// The compressed number at the start of these bytes.
 fn compressed(bytes: &[u8]) -> Option<u32>
     ensures { result ≡ compressed bytes.now }
 {

@@ -1,4 +1,4 @@
-//! Separated code: the chunks that functions have apart from their main code, and how annotations of sites name them.
+//! Chunks: code of functions that is separate from their main code, and how annotations refer to it.
 
 ghost use Rattle.std.specs.Prelude.{◌≡◌, IfOk};
 ghost use Rattle.std.specs.List.Sorted.{IsNonDecreasingBy};
@@ -15,19 +15,19 @@ use crate::symbol_records::SymbolRecord;
 use pdb_records::{PdbInternalSectionOffset, S_SEPCODE};
 use std::alloc::{AllocError, Global};
 
-/// Separated code of a function.
+/// A chunk: separated code of a function.
 #[derive(Clone, Copy)]
 pub(crate) struct Chunk {
-    /// Where its function starts.
+    /// The start of its function.
     pub(crate) function: PdbInternalSectionOffset,
     pub(crate) start: PdbInternalSectionOffset,
 }
 
-/// The code that sites stand in.
+/// The code to which inline sites belong: a function or one of its chunks.
 #[derive(Clone, Copy)]
 pub(crate) struct CodePlace {
     pub(crate) start: PdbInternalSectionOffset,
-    /// Where its function starts: where it does, unless it is a chunk.
+    /// The start of its function. It equals `start` unless this is a chunk.
     pub(crate) function: PdbInternalSectionOffset,
 }
 
@@ -39,7 +39,7 @@ impl HasPlace for Chunk {
     }
 }
 
-/// The chunks among these symbols by their functions. Those of one function are in the order of the symbols.
+/// The chunks among these symbols, sorted by function. Those of one function keep the order of the symbols.
 pub(crate) fn chunks_by_function(
     alloc: Global,
     symbols: &[SymbolRecord<'_>],
@@ -65,7 +65,7 @@ fn listed_chunks(alloc: Global, symbols: &[SymbolRecord<'_>]) -> Result<Vec<Chun
     Ok(chunks)
 }
 
-// The chunk that a symbol is, if it is one.
+// The chunk of a symbol, if the symbol is a separated code record.
 fn chunk_of(symbol: &SymbolRecord<'_>) -> Option<Chunk>
     ensures { result ≡ chunk_of symbol.now }
 {
@@ -79,7 +79,7 @@ fn chunk_of(symbol: &SymbolRecord<'_>) -> Option<Chunk>
     })
 }
 
-/// Of chunks that stand by their functions those of the function that starts at a place.
+/// The chunks of the function that starts at a section offset. `chunks` are sorted by function.
 pub(crate) fn chunks_at(chunks: &[Chunk], function: PdbInternalSectionOffset) -> &[Chunk]
     requires { IsNonDecreasingBy (λ chunk. place chunk.function) chunks.now }
     ensures { result.now ≡ chunks_at (place function) chunks.now }
@@ -91,7 +91,7 @@ pub(crate) fn chunks_at(chunks: &[Chunk], function: PdbInternalSectionOffset) ->
     &rest[..count]
 }
 
-/// Where the chunk of this number starts, counted from 1, if it stands in this section.
+/// The offset at which the chunk with this number starts, counted from 1, if it is in this section.
 pub(crate) fn numbered_start(chunks: &[Chunk], section: u16, number: u32) -> Option<u32>
     ensures { result ≡ numbered_start section chunks.now number }
 {

@@ -1,4 +1,4 @@
-//! What a module imports from others and exports to them.
+//! Reads the lists of a module's imports from other modules and exports to them.
 
 ghost use Rattle.std.specs.Prelude.{◌≡◌};
 ghost use Rattle.pdb_msf.specs.Faults.{Gives};
@@ -9,10 +9,10 @@ use pdb_msf::{Bytes, ItemReader, read_all_items, take_numbers, u32_at};
 use pdb_records::{CrossModuleExports, CrossModuleImports, ImportedModule, StringRef};
 use std::alloc::Global;
 
-/// The bytes of what is offered.
+/// The size of an export in bytes.
 const EXPORT: usize = 8;
 
-/// What a module takes from others, by the bytes of its list.
+/// Reads a module's imports.
 pub fn read_imports(alloc: Global, bytes: &[u8]) -> Result<CrossModuleImports, Fault>
     ensures { Gives (λ read. read) result (imports bytes.now) }
 {
@@ -20,7 +20,7 @@ pub fn read_imports(alloc: Global, bytes: &[u8]) -> Result<CrossModuleImports, F
     Ok(CrossModuleImports { modules })
 }
 
-/// What is taken from each module.
+/// Reads the imports from one module each.
 #[derive(Drop)]
 struct Imports {
     alloc: Global,
@@ -42,7 +42,7 @@ impl<'a> ItemReader<'a> for Imports {
     }
 }
 
-/// What a module offers to others, by the bytes of its list.
+/// Reads a module's exports.
 pub fn read_exports(alloc: Global, bytes: &[u8]) -> Result<CrossModuleExports, Fault>
     ensures { Gives (λ read. read) result (exports bytes.now) }
 {
@@ -50,7 +50,7 @@ pub fn read_exports(alloc: Global, bytes: &[u8]) -> Result<CrossModuleExports, F
     Ok(CrossModuleExports { exports })
 }
 
-/// What is offered, one after the other.
+/// Reads exports, which are pairs of a local and a global index.
 struct Exports;
 
 impl<'a> ItemReader<'a> for Exports {

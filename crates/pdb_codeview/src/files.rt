@@ -1,4 +1,4 @@
-//! The subsection of a module's files, which rows and sites name by where a file's entry starts.
+//! Reads the subsection of a module's files. Rows and sites refer to a file by the offset of its entry.
 
 ghost use Rattle.std.specs.Prelude.{◌≡◌, ◌++◌, ℕ, map, IfErr, IfOk, OnOk};
 ghost use Rattle.std.specs.BTreeMap.{get};
@@ -12,18 +12,18 @@ use pdb_tables::insert_first;
 use std::alloc::{AllocError, Global};
 use std::collections::BTreeMap;
 
-/// The bytes of an entry in front of its checksum.
+/// The size of an entry before its checksum, in bytes.
 const FRONT: usize = 6;
 
 /// An entry of a subsection of files.
 #[derive(Clone, Copy)]
 pub(crate) struct FileEntry {
-    /// Where it starts in its subsection, in bytes.
+    /// The offset of the entry in its subsection, in bytes.
     pub(crate) start: u32,
     pub(crate) info: FileInfo,
 }
 
-/// The files that a module's code came from.
+/// The files of a module, in the order of their entries, and the position of each by its entry's offset.
 #[derive(Drop)]
 pub struct Files {
     entries: Vec<FileEntry>,
@@ -33,7 +33,7 @@ pub struct Files {
 }
 
 impl Files {
-    /// The position of the file whose entry starts there: of several subsections the first that has one.
+    /// The position of the file whose entry has this offset. If several subsections have one, the first counts.
     pub fn position(&self, start: u32) -> Option<FileIndex>
         ensures { result ≡ named_file start self.now.entries.items }
     {
@@ -43,7 +43,7 @@ impl Files {
         }
     }
 
-    /// A copy of what is known of each file, by position.
+    /// A copy of the info of each file, in order.
     pub fn infos(&self, alloc: Global) -> Result<Vec<FileInfo>, AllocError>
         ensures { IfOk result (λ infos. infos.items ≡ map (λ entry. entry.info) self.now.entries.items) }
     {
@@ -74,7 +74,7 @@ fn first_positions(alloc: Global, entries: &[FileEntry]) -> Result<BTreeMap<u32,
     Ok(positions)
 }
 
-/// The files that the entries of these subsections name, one subsection after the other.
+/// Reads the files in these subsections, one subsection after the other.
 pub fn read_files(alloc: Global, subsections: &[&[u8]]) -> Result<Files, Fault>
     ensures entries { IfOk result (λ files.
         files.entries.items ≡ (all_entries (map (λ s. s.now) subsections.now)).items) }
@@ -110,7 +110,7 @@ fn push_all_entries(
     Ok(None)
 }
 
-/// The entries of a subsection of so many bytes, without what fills them up.
+/// Reads the entries of a subsection of `whole` bytes, without padding.
 #[derive(Drop)]
 struct FileEntries {
     whole: usize,

@@ -1,4 +1,4 @@
-//! An inline site's rows, beginning with the line and the file of its inlinee.
+//! The rows of an inline site. They begin with the line and the file of its inlinee.
 
 ghost use Rattle.std.specs.Prelude.{◌≡◌, map, IfErr, IfOk};
 ghost use Rattle.pdb_codeview.specs.Chunks.{numbered_start};
@@ -15,15 +15,15 @@ use pdb_msf::{nothing_read, read_items};
 use pdb_records::{IdIndex, InlineRow, PdbInternalSectionOffset, Reading};
 use std::alloc::{AllocError, Global};
 
-/// What the sites of a module refer to.
+/// The files and inlinees to which the inline sites of a module refer.
 #[derive(Drop)]
 pub struct CodeRecords {
     pub files: Files,
     pub inlinees: Inlinees,
 }
 
-/// The rows of a site in code that starts there, of a function with these chunks. There are none where the module
-/// doesn't list the function that was inlined.
+/// The rows of a site in code that starts at `start`, of a function with these chunks. If the module doesn't list the
+/// inlinee, there are none.
 pub(crate) fn site_rows(
     alloc: Global,
     code: &CodeRecords,
@@ -53,7 +53,7 @@ pub(crate) fn site_rows(
     Ok(Reading { items, fault })
 }
 
-// The rows with the position of each one's file in the place of where its entry starts.
+// The rows, with each file's entry offset replaced by the file's position.
 fn named_rows(
     alloc: Global,
     rows: &[InlineRow],

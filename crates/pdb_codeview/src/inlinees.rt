@@ -1,4 +1,4 @@
-//! The subsection of a module's inlinees: the functions that were inlined, with their source lines.
+//! Reads the subsection of a module's inlinees: the functions that were inlined, with their source lines.
 
 ghost use Rattle.std.specs.Prelude.{◌≡◌, ◌++◌, ℕ, length, map, Ok, Err, IfErr, IfOk, MatchResult, OnOk};
 ghost use Rattle.std.specs.BTreeMap.{get};
@@ -13,39 +13,39 @@ use pdb_tables::insert_first;
 use std::alloc::{AllocError, Global};
 use std::collections::BTreeMap;
 
-/// A list whose entries have one file each.
+/// The form of a list whose entries have one file each.
 const ONE_FILE: u32 = 0;
 
-/// A list whose entries have more files.
+/// The form of a list whose entries may have more files.
 const MORE_FILES: u32 = 1;
 
-/// The bytes of an entry in front of its further files.
+/// The size of an entry before its further files, in bytes.
 const FRONT: usize = 12;
 
-/// Where the body of a function starts that was inlined.
+/// The source position at which an inlined function starts.
 #[derive(Clone, Copy)]
 pub struct InlineeSource {
-    /// Where its file's entry starts.
+    /// The offset of its file's entry.
     pub file: u32,
     pub line: u32,
 }
 
-/// One of the functions whose bodies stand in a module's code.
+/// An inlinee with its source position.
 #[derive(Clone, Copy)]
 struct ListedInlinee {
     id: u32,
     source: InlineeSource,
 }
 
-/// The functions whose bodies stand in a module's code.
+/// The inlinees of a module.
 #[derive(Drop)]
 pub struct Inlinees {
     pub list: Reading<Inlinee>,
-    /// By their ids. Of two with one id the first counts.
+    /// The source position of each inlinee, by its id. If an id occurs twice, the first one counts.
     pub sources: BTreeMap<u32, InlineeSource>,
 }
 
-/// The functions that were inlined, by the bytes of their lists, one after the other.
+/// Reads the inlinees in these subsections, one subsection after the other.
 pub fn read_inlinees(alloc: Global, subsections: &[&[u8]]) -> Result<Inlinees, Fault>
     ensures items { IfOk result (λ read.
         read.list.items ≡ map inlinee (all_inlinees (map (λ s. s.now) subsections.now)).items) }
@@ -64,7 +64,7 @@ pub fn read_inlinees(alloc: Global, subsections: &[&[u8]]) -> Result<Inlinees, F
     })
 }
 
-// These functions by their ids alone.
+// Only the ids of these inlinees.
 fn by_id(alloc: Global, listed: &[ListedInlinee]) -> Result<Vec<Inlinee>, AllocError>
     ensures { IfOk result (λ ids. ids.items ≡ map inlinee listed.now) }
 {
@@ -107,7 +107,7 @@ fn push_all_inlinees(
     Ok(None)
 }
 
-// Appends the entries of a subsection, after the number of its form.
+// Appends the entries of a subsection, which follow the number of its form.
 fn push_subsection(
     bytes: &[u8],
     listed: &mut Vec<ListedInlinee>,
@@ -128,7 +128,7 @@ fn push_subsection(
     }
 }
 
-/// The entries of a list of this form.
+/// Reads the entries of a list of this form.
 #[derive(Drop)]
 struct InlineeEntries {
     form: u32,
@@ -148,7 +148,7 @@ impl<'a> ItemReader<'a> for InlineeEntries {
     }
 }
 
-// Passes over the further files of an entry, which entries of the second form have.
+// Skips the further files of an entry, which only entries of the second form have.
 fn pass_files(form: u32, rest: &mut Bytes<'_>) -> Result<(), StreamError>
     ensures { MatchResult result (λ _. behind_inlinee form rest.old ≡ Ok rest.new)
         (λ error. behind_inlinee form rest.old ≡ Err error) }

@@ -1,7 +1,6 @@
-//! What CodeView has of a program: symbols, files, lines, inlined functions, imports, exports.
+//! Reads CodeView data of a program: symbols, files, lines, inlinees, imports and exports.
 //!
-//! Each call reads one list, by its bytes. A list that is broken ends early, with one of the numbers of
-//! `pdb_msf::faults`.
+//! Each call reads one list from its bytes. A broken list ends early, with one of the numbers of `pdb_msf::faults`.
 #![tactic(auto)]
 
 mod annotation_rows;

@@ -1,4 +1,4 @@
-//! The entries of a module's line program: one for each subsection of lines, and for each procedure inside of one.
+//! Makes the entries of a module's line program: one for each subsection of lines, and for each procedure inside one.
 
 ghost use Rattle.std.specs.Prelude.{◌≡◌, ◌≤◌, ◌++◌, ℕ, List, map, IfOk, OnOk};
 ghost use Rattle.pdb_records.specs.declared.lines.LineInfo.{LineInfo};
@@ -56,7 +56,7 @@ fn starts_in(subsection: &LineSubsection, next: u64, bounds: RowBounds) -> bool
         && place(bounds.start) < next
 }
 
-// The entry of a subsection itself: where a procedure starts there too, the first row begins with it.
+// The entry at the start of a subsection. If a procedure starts there too, the entry's first row begins at that start.
 fn subsection_entry(
     alloc: Global,
     subsection: &LineSubsection,
@@ -81,7 +81,7 @@ fn subsection_entry(
     })
 }
 
-// The entry of a procedure whose rows are the first of these.
+// The entry of a procedure. `over` begins with the row that covers its start.
 fn procedure_entry(
     alloc: Global,
     subsection: &LineSubsection,
@@ -102,7 +102,7 @@ fn procedure_entry(
     })
 }
 
-// Appends the entries of the procedures in front that start in a subsection.
+// Appends the entries of the first procedures, as long as they start in the subsection.
 fn push_procedure_entries(
     alloc: Global,
     subsection: &LineSubsection,
@@ -128,7 +128,7 @@ fn push_procedure_entries(
     Ok(())
 }
 
-// Appends the entries of a subsection, of the procedures from the last one on that starts where it does or before it.
+// Appends the entries of a subsection. `here` begins with the last procedure that starts at or before it.
 fn push_subsection_entries(
     alloc: Global,
     subsection: &LineSubsection,
@@ -144,7 +144,7 @@ fn push_subsection_entries(
     push_procedure_entries(alloc, subsection, &rows, next, behind, entries)
 }
 
-// Where the next subsection starts, or after all places where none follows.
+// The place where the next subsection starts, or the greatest place if there is none.
 fn next_place(subsections: &[LineSubsection]) -> u64
     ensures { result ≡ next_place subsections.now }
 {
@@ -154,7 +154,8 @@ fn next_place(subsections: &[LineSubsection]) -> u64
     }
 }
 
-// The entries of subsections by start, each with those of the procedures in it. Both lists are gone through once.
+// The entries of subsections, which are sorted by start, each followed by those of its procedures. Each list is walked
+// over once.
 fn entries_of(
     alloc: Global,
     procedures: &[RowBounds],
@@ -177,7 +178,7 @@ fn entries_of(
 }
 
 /// The entries of a module's line program: one for each subsection of lines, and one for each procedure that starts
-/// further on in a subsection, so that the rows of each procedure stand under its own start.
+/// further on in a subsection. The rows of each procedure are therefore found under its own start.
 pub fn program_entries(
     alloc: Global,
     mut subsections: Vec<LineSubsection>,

@@ -1,4 +1,4 @@
-//! The line rows that reach over bytes, and those of a procedure among them.
+//! The line rows that cover bytes, and the rows of a procedure among them.
 
 ghost use Rattle.std.specs.Prelude.{◌≡◌, ◌++◌, nat_lt, IfOk, OnOk};
 ghost use Rattle.pdb_codeview.specs.Places.{front};
@@ -16,8 +16,8 @@ impl HasPlace for LineInfo {
     }
 }
 
-/// The rows that reach over bytes, by offset. The first rows of a function stand at one offset where its opening brace
-/// makes no code: only the last of them has the bytes that follow.
+/// The rows that cover bytes, sorted by offset. If a function's opening brace makes no code, its first rows have the
+/// same offset: only the last of these covers the bytes that follow.
 pub(crate) fn rows_with_bytes(alloc: Global, rows: &[LineInfo]) -> Result<Vec<LineInfo>, AllocError>
     ensures { IfOk result (λ v. v.items ≡ rows_with_bytes rows.now) }
 {
@@ -26,7 +26,7 @@ pub(crate) fn rows_with_bytes(alloc: Global, rows: &[LineInfo]) -> Result<Vec<Li
     first_of_each_place(alloc, backwards)
 }
 
-/// A copy of all rows, of which the first begins at an offset.
+/// A copy of all rows, with the first one moved to begin at the offset `start`.
 pub(crate) fn begun_rows(
     alloc: Global,
     rows: &[LineInfo],
@@ -41,7 +41,7 @@ pub(crate) fn begun_rows(
     Ok(begun)
 }
 
-// Appends the rows before an offset. It reads no further.
+// Appends the rows before an offset. Stops at the first row after it.
 fn push_rows_before(
     begun: &mut Vec<LineInfo>,
     rows: &[LineInfo],
@@ -59,7 +59,8 @@ fn push_rows_before(
     Ok(())
 }
 
-/// A copy of the rows of which the first begins at an offset, up to another offset. It reads no further.
+/// A copy of the rows before the offset `end`, with the first one moved to begin at `start`. Stops at the first row
+/// after `end`.
 pub(crate) fn begun_rows_before(
     alloc: Global,
     rows: &[LineInfo],

@@ -1,4 +1,4 @@
-//! The subsection of lines: rows of offset, file and line over bytes of a section.
+//! Reads the subsection of lines: rows of offset, file and line for a range of bytes of a section.
 
 ghost use Rattle.std.specs.Prelude.{◌≡◌, ◌++◌, length, IfOk, OnOk};
 ghost use Rattle.pdb_msf.specs.Faults.{Gives};
@@ -13,42 +13,42 @@ use pdb_records::{FileIndex, LineInfo, PdbInternalSectionOffset, Reading, Stream
 use std::alloc::{AllocError, Global};
 use std::marker::Model;
 
-/// A subsection of lines: rows over bytes of a section, in the order in which they are read.
+/// A subsection of lines: the rows for a range of bytes of a section, in file order.
 #[derive(Drop)]
 pub struct LineSubsection {
     pub offset: PdbInternalSectionOffset,
-    /// How many bytes it is of.
+    /// The size of this range in bytes.
     pub size: u32,
     pub rows: Reading<LineInfo>,
 }
 
-/// The bytes in front of a subsection's blocks.
+/// The size of a subsection before its blocks, in bytes.
 const SUBSECTION_FRONT: usize = 12;
 
-/// The bytes in front of a block's rows.
+/// The size of a block before its rows, in bytes.
 const BLOCK_FRONT: usize = 12;
 
-/// The bytes of a row.
+/// The size of a row in bytes.
 const ROW: usize = 8;
 
-/// Lines are below this number: the line of a row is the lowest 24 bits of a number.
+/// One more than the greatest line: the lowest 24 bits of a row's number are its line.
 const LINES: u32 = 0x0100_0000;
 
-/// The line of code that a debugger steps through.
+/// The line number that marks code through which a debugger steps.
 const STEP_THROUGH: u32 = 0x00fe_efee;
 
-/// The line of code that a debugger doesn't stop in.
+/// The line number that marks code in which a debugger doesn't stop.
 const STEP_OVER: u32 = 0x00f0_0f00;
 
-/// A file that the module doesn't list.
+/// The position of a file that the module doesn't list.
 const NO_FILE: FileIndex = FileIndex(u32::MAX);
 
-/// Rows of one file.
+/// A block: rows of one file.
 #[derive(Drop)]
 struct LineBlock<'a> {
-    /// Where the file's entry starts.
+    /// The offset of the file's entry.
     file: u32,
-    /// How many rows it is to have.
+    /// The number of rows that the block claims to have.
     count: u32,
     rows: &'a [u8],
 }
@@ -61,14 +61,14 @@ impl<'a> Model for LineBlock<'a> {
     ghost view = { λ b. record { file = b.file; count = b.count; rows = b.rows.now } };
 }
 
-/// The position of the file whose entry starts there, or one that no file has.
+/// The position of the file whose entry has this offset, or a position that no file has.
 pub fn file_at(files: &Files, start: u32) -> FileIndex
     ensures { result ≡ file_at files.now.entries.items start }
 {
     files.position(start).unwrap_or(NO_FILE)
 }
 
-/// The rows of one subsection.
+/// Reads one subsection of lines.
 pub fn read_lines(alloc: Global, bytes: &[u8], files: &Files) -> Result<LineSubsection, Fault>
     ensures { Gives (λ read. read) result (line_subsection files.now.entries.items bytes.now) }
 {
@@ -91,7 +91,7 @@ pub fn read_lines(alloc: Global, bytes: &[u8], files: &Files) -> Result<LineSubs
     })
 }
 
-// Appends the rows of these blocks, one block after the other up to the first fault.
+// Appends the rows of these blocks, up to the first fault.
 fn push_blocks(
     blocks: &[LineBlock<'_>],
     files: &Files,
@@ -112,7 +112,7 @@ fn push_blocks(
     Ok(None)
 }
 
-/// The blocks of a subsection.
+/// Reads the blocks of a subsection.
 struct LineBlocks;
 
 impl<'a> ItemReader<'a> for LineBlocks {
@@ -157,7 +157,7 @@ fn push_block_rows(
     }
 }
 
-/// The rows of a file, in code that starts at an offset.
+/// Reads rows of a file, in code that starts at an offset.
 #[derive(Drop)]
 struct LineRows {
     file_index: FileIndex,
@@ -188,7 +188,7 @@ fn line_row(bytes: &[u8], file_index: FileIndex, start: u32) -> LineInfo
     }
 }
 
-// The rows but for those of no line.
+// Removes the rows whose number marks code without a line.
 fn rows_of_lines(mut rows: Vec<LineInfo>) -> Vec<LineInfo>
     ensures { result.items ≡ rows_of_lines rows.items }
 {

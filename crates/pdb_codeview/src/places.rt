@@ -1,4 +1,4 @@
-//! Section offsets as numbers, and lists that are sorted and gone through by them.
+//! Section offsets as single numbers (places), and lists that are sorted and searched by them.
 
 ghost use Rattle.std.specs.Prelude.{◌≡◌, ◌≤◌, ◌<◌, ◌^◌, ℕ, None, IfOk, OnOk};
 ghost use Rattle.std.specs.List.Sorted.{IsNonDecreasingBy};
@@ -8,7 +8,7 @@ ghost use Rattle.pdb_codeview.specs.Places.{place, stands_before, firsts_after, 
 use pdb_records::PdbInternalSectionOffset;
 use std::alloc::{AllocError, Global};
 
-/// What stands at a place, by which a list of its kind is put in order.
+/// An element of a list that has a place, by which the list is sorted.
 pub(crate) trait HasPlace {
     ghost place_of: { Self → ℕ };
 
@@ -16,7 +16,7 @@ pub(crate) trait HasPlace {
         ensures { result ≡ place_of self.now };
 }
 
-/// A section offset as a number: sections stand one after the other, each 4 GiB after the one before.
+/// A section offset as one number, its place: the section's number times 4 GiB, plus the offset.
 pub fn place(section_offset: PdbInternalSectionOffset) -> u64
     ensures answer { result ≡ place section_offset }
     ensures small { result < 2 ^ 48 }
@@ -24,7 +24,7 @@ pub fn place(section_offset: PdbInternalSectionOffset) -> u64
     u64::from(section_offset.section) * 0x1_0000_0000 + u64::from(section_offset.offset)
 }
 
-/// Puts a list in order of its places. What has one place stays in the order that it had.
+/// Sorts a list by place. The sort is stable: elements with the same place keep their order.
 pub(crate) fn sort_by_place<T: HasPlace>(items: &mut Vec<T>) -> Result<(), AllocError>
     ensures state { OnOk result (items.new.items ≡ in_order (stands_before T.place_of) items.old.items) }
     ensures ascending { OnOk result (IsNonDecreasingBy T.place_of items.new.items) }
@@ -32,7 +32,7 @@ pub(crate) fn sort_by_place<T: HasPlace>(items: &mut Vec<T>) -> Result<(), Alloc
     items.sort_by_key(|item| item.place())
 }
 
-// Of neighbours with one place, the first.
+// Keeps the first of each run of neighbours that have the same place.
 fn first_neighbours<T: HasPlace + Copy>(alloc: Global, items: &[T]) -> Result<Vec<T>, AllocError>
     ensures { IfOk result (λ v. v.items ≡ firsts_after T.place_of None items.now) }
 {
@@ -48,7 +48,7 @@ fn first_neighbours<T: HasPlace + Copy>(alloc: Global, items: &[T]) -> Result<Ve
     Ok(counted)
 }
 
-/// A list in order of its places, of each place the first.
+/// Sorts a list by place, and keeps only the first element of each place.
 pub(crate) fn first_of_each_place<T: HasPlace + Copy>(
     alloc: Global,
     mut items: Vec<T>,
@@ -59,7 +59,7 @@ pub(crate) fn first_of_each_place<T: HasPlace + Copy>(
     first_neighbours(alloc, &items)
 }
 
-// What is left of a list in order from the last element on that stands at a place or before it.
+// The rest of a sorted list, from the last element whose place is at most `x`. If there is none, the whole list.
 fn from_last<T: HasPlace>(items: &[T], x: u64) -> &[T]
     ensures { result.now ≡ from_last T.place_of x items.now }
 {
@@ -73,8 +73,8 @@ fn from_last<T: HasPlace>(items: &[T], x: u64) -> &[T]
     rest
 }
 
-/// What is left of a list in order from the last element on that stands at a place or before it. `rest` is what was
-/// answered for the place `asked`: places that are asked for in ascending order are found by one walk over the list.
+/// The rest of a sorted list, from the last element whose place is at most `x`. `rest` is the result of an earlier call
+/// for the place `asked`, or the whole list. Calls with ascending places therefore walk over the list only once.
 pub(crate) fn walked_to<'a, T: HasPlace>(
     items: &'a [T],
     rest: &'a [T],

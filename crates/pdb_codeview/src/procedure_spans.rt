@@ -1,4 +1,4 @@
-//! The bytes of procedures, and how far the line rows of each may reach.
+//! The ranges of bytes of procedures, and how far the line rows of each may reach.
 
 ghost use Rattle.std.specs.Prelude.{◌≡◌, ◌<◌, ◌^◌, IfOk};
 ghost use Rattle.pdb_codeview.specs.Places.{place};
@@ -9,19 +9,19 @@ use crate::places::{HasPlace, place};
 use pdb_records::{PdbInternalSectionOffset, Symbol, SymbolData};
 use std::alloc::{AllocError, Global};
 
-/// The bytes of a procedure.
+/// The range of bytes of a procedure.
 #[derive(Clone, Copy)]
 pub struct ProcedureSpan {
     pub start: PdbInternalSectionOffset,
-    /// At least 1.
+    /// The length in bytes, at least 1.
     pub len: u32,
 }
 
-/// From where to where the rows of a procedure reach.
+/// The range in which the rows of a procedure count.
 #[derive(Clone, Copy)]
 pub(crate) struct RowBounds {
     pub(crate) start: PdbInternalSectionOffset,
-    /// In bytes from the section's start.
+    /// The end, in bytes from the section's start.
     pub(crate) end: u64,
 }
 
@@ -54,7 +54,7 @@ fn span(start: PdbInternalSectionOffset, len: u32) -> Option<ProcedureSpan>
     Some(ProcedureSpan { start, len })
 }
 
-/// The bytes of the code that a symbol's content shows: of a procedure, a thunk, or code apart from its procedure.
+/// The range of code that a symbol describes, if it is a procedure, a thunk or separated code of at least one byte.
 pub fn span_of(content: &Option<SymbolData>) -> Option<ProcedureSpan>
     ensures { result ≡ span_of content.now }
 {
@@ -66,8 +66,8 @@ pub fn span_of(content: &Option<SymbolData>) -> Option<ProcedureSpan>
     }
 }
 
-/// The bytes of each procedure that symbols show, and of thunks and code apart from its procedure, whose lines are
-/// looked for in the same way.
+/// The ranges of code of all procedures, thunks and separated code among the symbols. Line rows are looked up for all
+/// of them in the same way.
 pub fn symbol_spans(alloc: Global, symbols: &[Symbol]) -> Result<Vec<ProcedureSpan>, AllocError>
     ensures { IfOk result (λ v. v.items ≡ symbol_spans symbols.now) }
 {
@@ -86,7 +86,7 @@ fn end_of(span: ProcedureSpan) -> u64
     u64::from(span.start.offset) + u64::from(span.len)
 }
 
-// Where a procedure ends, or where the next one starts, whichever is first.
+// The end of a procedure, or the start of the next one if that is earlier.
 fn end_before(span: ProcedureSpan, others: &[ProcedureSpan]) -> u64
     ensures { result ≡ end_before span others.now }
 {
@@ -104,8 +104,8 @@ fn place_behind(span: ProcedureSpan) -> u64
     place(span.start) + u64::from(span.len)
 }
 
-/// How far the rows of procedures reach, which are in order of their starts. Rows of procedures that lie in one another
-/// are handed out to two of them at most.
+/// The bounds of the rows of procedures, which are sorted by start. If procedures overlap, each row is given to at most
+/// two of them.
 pub(crate) fn row_bounds(
     alloc: Global,
     spans: &[ProcedureSpan],

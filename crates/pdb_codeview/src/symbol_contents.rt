@@ -1,4 +1,4 @@
-//! Symbols: procedures, public symbols, thunks, separated code, trampolines, inline sites.
+//! Reads the content of symbols: procedures, public symbols, thunks, separated code, trampolines and inline sites.
 
 ghost use Rattle.std.specs.Prelude.{◌≡◌, ◌≤◌, ◌+◌, length, map, IfErr, IfOk};
 ghost use Rattle.std.specs.List.Sorted.{IsNonDecreasingBy};
@@ -32,22 +32,22 @@ use pdb_records::{
 };
 use std::alloc::Global;
 
-/// The kind of a jump that leads to a function.
+/// The kind of a trampoline: a jump to a function.
 pub const S_TRAMPOLINE: u16 = 0x112c;
 
-/// A procedure of code for Itanium that only its module sees.
+/// A local procedure of code for Itanium.
 const S_LPROCIA64: u16 = 0x1118;
 
-/// A procedure of code for Itanium that every module sees.
+/// A global procedure of code for Itanium.
 const S_GPROCIA64: u16 = 0x1119;
 
-/// A procedure of managed code that every module sees.
+/// A global procedure of managed code.
 const S_GMANPROC: u16 = 0x112a;
 
-/// A procedure of managed code that only its module sees.
+/// A local procedure of managed code.
 const S_LMANPROC: u16 = 0x112b;
 
-// In front of all code.
+// The place before any code.
 const NO_CODE: CodePlace = CodePlace {
     start: PdbInternalSectionOffset {
         section: 0,
@@ -59,8 +59,7 @@ const NO_CODE: CodePlace = CodePlace {
     },
 };
 
-/// The symbols of the whole program, by the bytes of their stream. Only public ones are looked into: of all others the
-/// kind alone is known.
+/// Reads the global symbols. Only public symbols have content; of all others only the kind is read.
 pub fn read_global_symbols(alloc: Global, stream: &[u8]) -> Result<SymbolTable, Fault>
     ensures answer { IfOk result (λ table. table.symbols ≡ global_symbols stream.now) }
     ensures memory { IfErr result (λ fault. fault ≡ Fault.OutOfMemory) }
@@ -70,7 +69,7 @@ pub fn read_global_symbols(alloc: Global, stream: &[u8]) -> Result<SymbolTable, 
     Ok(SymbolTable { symbols })
 }
 
-// The symbols of this list, as those of the whole program.
+// The symbols of a list, read as global symbols.
 fn global_list(alloc: Global, list: &Reading<SymbolRecord<'_>>) -> Result<Reading<Symbol>, Fault>
     ensures items { IfOk result (λ read. read.items ≡ map global_symbol list.now.items) }
     ensures fault { IfOk result (λ read. read.fault ≡ list.now.fault) }
@@ -96,7 +95,7 @@ fn global_symbol(alloc: Global, symbol: &SymbolRecord<'_>) -> Result<Symbol, Fau
     })
 }
 
-// What a symbol of the whole program holds, where it can be read.
+// The content of a global symbol; `None` if it can't be read.
 fn global_content(alloc: Global, symbol: &SymbolRecord<'_>) -> Result<Option<SymbolData>, Fault>
     ensures answer { IfOk result (λ content. content ≡ global_content symbol.now) }
     ensures memory { IfErr result (λ fault. fault ≡ Fault.OutOfMemory) }
@@ -107,8 +106,8 @@ fn global_content(alloc: Global, symbol: &SymbolRecord<'_>) -> Result<Option<Sym
     Ok(Some(SymbolData::Other))
 }
 
-/// The symbols of a module, by the bytes of their list, before which `front` bytes stand in the module's stream. Sites
-/// have their rows by what the module says of its code.
+/// Reads the symbols of a module. Its stream has `front` bytes before them. `code` has the files and inlinees that are
+/// needed for the rows of inline sites.
 pub fn read_symbols(
     alloc: Global,
     bytes: &[u8],
@@ -122,7 +121,7 @@ pub fn read_symbols(
     module_list(alloc, &list, code)
 }
 
-// The symbols of this list, as those of a module.
+// The symbols of a list, read as those of a module.
 fn module_list(
     alloc: Global,
     list: &Reading<SymbolRecord<'_>>,
@@ -152,7 +151,7 @@ fn module_list(
     })
 }
 
-// The procedure, or the chunk of one, that sites after this symbol stand in.
+// The procedure or chunk to which inline sites after this symbol belong.
 fn code_place(content: &Option<SymbolData>, before: CodePlace) -> CodePlace
     ensures { result ≡ code_place content.now before }
 {
@@ -169,7 +168,7 @@ fn code_place(content: &Option<SymbolData>, before: CodePlace) -> CodePlace
     }
 }
 
-// The kind that the records have for this one: those of Itanium and of managed code are procedures like others.
+// The kind of a symbol in the records. Procedures for Itanium and of managed code become ordinary procedures.
 fn recorded_kind(raw_kind: u16) -> u16
     ensures { result ≡ recorded_kind raw_kind }
 {
@@ -180,7 +179,7 @@ fn recorded_kind(raw_kind: u16) -> u16
     }
 }
 
-// What a symbol of a module holds after code at a place, where it can be read. The function of that code has these
+// The content of a module's symbol; `None` if it can't be read. `at` is the code before it, whose function has these
 // chunks.
 fn module_content(
     alloc: Global,
@@ -218,7 +217,7 @@ fn module_content(
     }
 }
 
-/// The section offset whose offset stands at one place of a symbol's content, and the section at another.
+/// Reads a section offset from a symbol's content: the offset at one position, and the section at another.
 pub(crate) fn section_offset(
     content: &[u8],
     offset: usize,
@@ -247,7 +246,7 @@ fn public_symbol(alloc: Global, symbol: &SymbolRecord<'_>) -> Result<Option<Symb
     })))
 }
 
-// Where a procedure of this kind has its name.
+// The position of the name in a procedure of this kind.
 fn procedure_name_place(raw_kind: u16) -> usize
     ensures { result ≡ procedure_name_place raw_kind }
 {
@@ -257,7 +256,7 @@ fn procedure_name_place(raw_kind: u16) -> usize
     }
 }
 
-// The type of a procedure. Managed code has a token in its place, and so no type.
+// The type of a procedure. Managed code has a token instead, and so no type.
 fn procedure_type(symbol: &SymbolRecord<'_>) -> TypeIndex
     requires { 28 ≤ length symbol.now.content }
     ensures { result ≡ procedure_type symbol.now }
@@ -325,7 +324,7 @@ fn separated_code(symbols: &[SymbolRecord<'_>], symbol: &SymbolRecord<'_>) -> Op
     }))
 }
 
-// A jump, as code apart from the function that it leads to. No symbol closes it.
+// A trampoline, as separated code of the function to which it jumps. It has no closing symbol.
 fn trampoline(symbol: &SymbolRecord<'_>) -> Option<SymbolData>
     ensures { result ≡ trampoline symbol.now }
 {
@@ -341,8 +340,8 @@ fn trampoline(symbol: &SymbolRecord<'_>) -> Option<SymbolData>
     }))
 }
 
-// A site, with what its annotations say of code at a place, whose function has these chunks. So many bytes stand before
-// the annotations.
+// An inline site with the rows of its annotations, in the code at `at`, whose function has these chunks. The
+// annotations begin after `size` bytes.
 fn inline_site(
     alloc: Global,
     symbols: &[SymbolRecord<'_>],

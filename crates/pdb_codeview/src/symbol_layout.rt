@@ -1,6 +1,6 @@
-//! Where symbols have their parts, in bytes from after the kind, and which part stands there in the published format.
+//! Offsets of the fields of symbols, in bytes after the kind, with the fields' names in the published format.
 
-/// The symbol that closes one which opens a block (`pEnd`): a procedure, a thunk, separated code, or an inline site.
+/// The offset of the symbol that closes a block (`pEnd`), in a procedure, a thunk, separated code or an inline site.
 pub(crate) const END: usize = 4;
 
 /// A public symbol (`PUBSYM32`): `off`, `seg`, and `name`.
@@ -21,7 +21,8 @@ pub(crate) const PROCEDURE_SECTION: usize = 32;
 
 pub(crate) const PROCEDURE_NAME: usize = 35;
 
-/// The name of a procedure whose symbol says `retReg` too (`PROCSYMIA64`, `MANPROCSYM`). All else stands as in others.
+/// The name of a procedure whose symbol also has `retReg` (`PROCSYMIA64`, `MANPROCSYM`). All other fields are at the
+/// same offsets.
 pub(crate) const PROCEDURE_NAME_BEHIND_REGISTER: usize = 37;
 
 /// A thunk (`THUNKSYM32`): `off`, `seg`, `len`, and `name`.
@@ -33,7 +34,7 @@ pub(crate) const THUNK_LENGTH: usize = 18;
 
 pub(crate) const THUNK_NAME: usize = 21;
 
-/// Separated code (`SEPCODESYM`): `length`, `off`, `offParent`, `sect`, `sectParent`, and how many bytes it has.
+/// Separated code (`SEPCODESYM`): `length`, `off`, `offParent`, `sect`, `sectParent`, and the size of all fields.
 pub(crate) const SEPARATED_LENGTH: usize = 8;
 
 pub(crate) const SEPARATED_OFFSET: usize = 16;
@@ -46,7 +47,8 @@ pub(crate) const SEPARATED_PARENT_SECTION: usize = 26;
 
 pub(crate) const SEPARATED_SIZE: usize = 28;
 
-/// A jump (`TRAMPOLINESYM`): `cbThunk`, `offThunk`, `offTarget`, `sectThunk`, `sectTarget`, and how many bytes it has.
+/// A trampoline (`TRAMPOLINESYM`): `cbThunk`, `offThunk`, `offTarget`, `sectThunk`, `sectTarget`, and the size of all
+/// fields.
 pub(crate) const JUMP_LENGTH: usize = 2;
 
 pub(crate) const JUMP_OFFSET: usize = 4;
@@ -59,8 +61,8 @@ pub(crate) const JUMP_TARGET_SECTION: usize = 14;
 
 pub(crate) const JUMP_SIZE: usize = 16;
 
-/// An inline site (`INLINESITESYM`): `inlinee`, and `binaryAnnotations`, which stand after `invocations` in the second
-/// form (`INLINESITESYM2`).
+/// An inline site (`INLINESITESYM`): `inlinee`, and `binaryAnnotations`, which follow `invocations` in the second form
+/// (`INLINESITESYM2`).
 pub(crate) const INLINEE: usize = 8;
 
 pub(crate) const ANNOTATIONS: usize = 12;

@@ -1,4 +1,4 @@
-//! Symbol records: how the bytes of a list of symbols are cut into them, and the names at their ends.
+//! Splits a list of symbols into records, and reads the names at their ends.
 
 ghost use Rattle.std.specs.Prelude.{◌≡◌, ◌≤◌, length, IfErr, IfOk, IfSome, option_map};
 ghost use Rattle.std.specs.List.Sorted.{IsNonDecreasingBy};
@@ -10,22 +10,22 @@ use pdb_records::{Reading, SymbolIndex};
 use std::alloc::Global;
 use std::marker::Model;
 
-/// The kind of a record that only fills up to a place.
+/// The kind of a record that is only padding.
 pub(crate) const S_ALIGN: u16 = 0x0402;
 
-/// The kind of a record that only holds a place free.
+/// The kind of a record that only reserves space.
 pub(crate) const S_SKIP: u16 = 0x0007;
 
-/// Kinds below this one have names with their lengths in front.
+/// Kinds below this one have names with a length before them. All others have names that end in a zero.
 const ZERO_ENDED_NAMES: u16 = 0x1100;
 
-/// A symbol's bytes.
+/// The bytes of a symbol record.
 #[derive(Drop)]
 pub(crate) struct SymbolRecord<'a> {
-    /// Where it starts, in bytes from the start of its stream.
+    /// The offset of the record in its stream, in bytes.
     pub(crate) start: usize,
     pub(crate) raw_kind: u16,
-    /// What stands after the kind.
+    /// The bytes after the kind.
     pub(crate) content: &'a [u8],
 }
 
@@ -38,14 +38,14 @@ impl<'a> Model for SymbolRecord<'a> {
 }
 
 impl<'a> SymbolRecord<'a> {
-    // Whether it is no symbol.
+    // Whether the record is padding or reserved space.
     fn is_filler(&self) -> bool
         ensures { result ≡ is_filler self.now }
     {
         self.raw_kind == S_ALIGN || self.raw_kind == S_SKIP
     }
 
-    /// The name after the first bytes of its content, so many, where it is there.
+    /// The name after the first `size` bytes of the content, if it is there.
     pub(crate) fn name_behind(&self, size: usize) -> Option<&'a [u8]>
         ensures answer { option_map (λ name. name.now) result ≡ name_behind size self.now }
         ensures there { IfSome result (λ _. size ≤ length self.now.content) }
@@ -58,7 +58,7 @@ impl<'a> SymbolRecord<'a> {
     }
 }
 
-// The name that these bytes begin with, in the form of this kind.
+// The name at the start of these bytes, in the form that this kind has.
 fn name_in(raw_kind: u16, bytes: &[u8]) -> Option<&[u8]>
     ensures { option_map (λ name. name.now) result ≡ name_in raw_kind bytes.now }
 {
@@ -70,7 +70,7 @@ fn name_in(raw_kind: u16, bytes: &[u8]) -> Option<&[u8]>
     }
 }
 
-/// The position of the first symbol that starts at a place or after it. The symbols stand by where they start.
+/// The position of the first symbol that starts at or after an offset. The symbols are sorted by start.
 pub(crate) fn position_at(symbols: &[SymbolRecord<'_>], place: u32) -> SymbolIndex
     requires { IsNonDecreasingBy (λ symbol. symbol.start) symbols.now }
     ensures { result ≡ position_at symbols.now place }
@@ -78,8 +78,8 @@ pub(crate) fn position_at(symbols: &[SymbolRecord<'_>], place: u32) -> SymbolInd
     SymbolIndex(symbols.partition_point(|symbol| symbol.start < place as usize))
 }
 
-/// Splits a list into its symbols. Records that only fill a place are passed over. `front` bytes stand before the list
-/// in its stream.
+/// Splits a list into its symbols. Padding and reserved space are skipped. The stream has `front` bytes before the
+/// list.
 pub(crate) fn split_symbol_records<'a>(
     alloc: Global,
     bytes: &'a [u8],
@@ -96,7 +96,7 @@ pub(crate) fn split_symbol_records<'a>(
     Ok(Reading { items, fault })
 }
 
-/// The records of a list that ends at a place of its stream.
+/// Reads the records of a list that ends at this offset of its stream.
 #[derive(Drop)]
 struct SymbolRecords {
     end: usize,

@@ -1,4 +1,4 @@
--- What a file says of its program in the stream of debug information and in the streams that this one names.
+-- The debug information stream (DBI) and the streams that it names.
 use Rattle.std.specs.Prelude.{ℕ, ◌==◌, Bool, false, not, List, [], length, Option, Some, None, Result, Ok, Err}
 use Rattle.std.specs.Prelude.{if◌then◌else◌}
 use Rattle.pdb_records.specs.Readings.{Read}
@@ -29,7 +29,7 @@ abbrev pub is_no_size : Result ℕ StreamError → Bool
 is_no_size (Ok size) = size == 0
 is_no_size (Err fault) = false
 
--- the bytes of the stream of debug information, which has the number 3: one without bytes is none
+-- the bytes of the debug information stream, which is stream 3; an empty stream counts as missing
 unfoldable pub debug_stream : Msf → Result (List ℕ) StreamError
 debug_stream msf = if is_no_size (size_of msf 3) then Err NO_STREAM else stream_of msf 3
 
@@ -37,7 +37,7 @@ debug_stream msf = if is_no_size (size_of msf 3) then Err NO_STREAM else stream_
 unfoldable pub debug_header : Msf → Result DebugHeader StreamError
 debug_header msf = debug_stream msf >>= header
 
--- what the substreams after a header say: the machine, the modules, and which bytes came from which module
+-- what the header and its substreams say: the machine, the modules and the section contributions
 abbrev pub information_of : DebugHeader → DebugInformation
 information_of front = record {
   machine_type = Ok front.machine_type;
@@ -45,7 +45,7 @@ information_of front = record {
   section_contributions = contributions front.section_contributions;
 }
 
--- the section headers of a stream, where it is named
+-- the section headers in a stream, if the optional debug header names one
 abbrev pub headers_in : Msf → Option ℕ → Result (Option (List ImageSectionHeader)) StreamError
 headers_in msf None = Ok None
 headers_in msf (Some number) = do
@@ -53,35 +53,35 @@ headers_in msf (Some number) = do
   headers ← section_headers stream
   Ok (Some headers)
 
--- the section headers stand in the stream at the position 5 of the optional debug header
+-- the section headers, in the stream that the optional debug header names at its position 5
 unfoldable pub sections_of : Msf → DebugHeader → Result (Option (List ImageSectionHeader)) StreamError
 sections_of msf front = headers_in msf (optional_stream front.optional_streams.bytes 5)
 
--- addresses are rearranged by a stream that is named, unless it is there and has no bytes
+-- whether a named stream rearranges addresses: it does unless the stream is present and empty
 abbrev pub rearranges : Msf → Option ℕ → Bool
 rearranges msf None = false
 rearranges msf (Some number) = not (is_no_size (size_of msf number))
 
--- where sections are loaded, if there are section headers
+-- the address range of each section; an error if there are no section headers
 abbrev pub addresses_of : Option (List ImageSectionHeader) → Result (List AddressRange) StreamError
 addresses_of None = Err NO_STREAM
 addresses_of (Some headers) = Ok (loaded_at headers)
 
--- the address map is that of the sections; it isn't known where addresses are rearranged, by the streams at the
--- positions 3 and 4 of the optional debug header
+-- the address map by the section headers. It isn't known if addresses are rearranged, by the streams at the positions 3
+-- and 4 of the optional debug header
 unfoldable pub address_map_of : Msf → DebugHeader → Result (List AddressRange) StreamError
 address_map_of msf front =
     if rearranges msf (optional_stream front.optional_streams.bytes 3) then Err REARRANGED else
     if rearranges msf (optional_stream front.optional_streams.bytes 4) then Err REARRANGED else
     (sections_of msf front >>= addresses_of)
 
--- the symbols of the whole program, in the stream of this number, if that is one
+-- the global symbols, in the stream of this number; an error if the number means no stream
 unfoldable pub symbol_stream : Msf → ℕ → Result (Read Symbol) StreamError
 symbol_stream msf number = if number == sn_nil then Err NO_STREAM else (do
   stream ← stream_of msf number
   Ok (symbols_of stream))
 
--- the symbols of a table of them, or why there is none
+-- the symbols in a symbol table, or why there is none
 abbrev pub tabled : Result SymbolTable StreamError → Result (Read Symbol) StreamError
 tabled (Ok table) = Ok table.symbols
 tabled (Err fault) = Err fault
@@ -98,24 +98,25 @@ sections msf = debug_header msf >>= sections_of msf
 unfoldable pub address_map : Msf → Result (List AddressRange) StreamError
 address_map msf = debug_header msf >>= address_map_of msf
 
--- the symbols of a container's whole program: SymRecordStream of the header is the number of their stream
+-- the global symbols of a container; SymRecordStream of the DBI header is the number of their stream
 unfoldable pub global_symbols : Msf → Result (Read Symbol) StreamError
 global_symbols msf = debug_header msf >>= λ front. symbol_stream msf front.global_symbols
 
--- what the modules of a header say of where their records stand, nothing where there is no header
+-- the stream of each module that a header lists; no modules without a header
 abbrev pub streams_by : Result DebugHeader StreamError → List ModuleStream
 streams_by (Ok front) = module_streams front.modules
 streams_by (Err fault) = []
 
--- what the modules of a container say of where their records stand
+-- the stream of each module that a container's DBI header lists
 unfoldable pub streams_of_modules : Msf → List ModuleStream
 streams_of_modules msf = streams_by (debug_header msf)
 
--- what is known of each module of a container, with names for code without one: these have no more bytes than the file
+-- the records of each module of a container, with names for chunks and jumps; the length of the file bounds how many
+-- bytes these names take
 unfoldable pub module_infos : Msf → List ModuleOrFault
 module_infos msf =
     named_modules (length msf.file) (global_symbols msf) (modules_read msf (streams_of_modules msf))
 
--- a part of a file's records: that of the container which the file is, or why it is none
+-- one part of a file's records, taken from the file's container; or why the file is no container
 abbrev pub of_file : {A : Type 0} → (Msf → A) → List ℕ → Result A ContainerError
 of_file part file = container file >>= λ msf. Ok (part msf)

@@ -1,4 +1,4 @@
--- What a file says beside its types, its ids and its modules.
+-- The records of a file other than types, ids and the records of modules.
 use Rattle.std.specs.Prelude.{◌≡◌}
 use Rattle.pdb_records.specs.Records.{Records}
 use Rattle.pdb_msf.specs.Msf.{Msf}
@@ -6,7 +6,7 @@ use Rattle.pdb_container.specs.DebugRecords.{address_map, debug_information, glo
 use Rattle.pdb_container.specs.PdbFile.{table_of}
 use Rattle.pdb_container.specs.NameStream.{string_table}
 
--- records have what a container says beside its types, its ids and what is known of its modules
+-- the records have all parts of a container, except perhaps types, ids and the records of modules
 abbrev pub HasFront : Msf → Records → Type 0
 HasFront msf records =
     (records.sections ≡ sections msf)
@@ -15,7 +15,7 @@ HasFront msf records =
     × (records.debug_information ≡ debug_information msf)
     × (records.string_table ≡ string_table msf)
 
--- records differ at most in types, ids and what is known of modules
+-- two sets of records differ at most in types, ids and the records of modules
 abbrev pub SameFront : Records → Records → Type 0
 SameFront old new =
     (new.sections ≡ old.sections)

@@ -1,4 +1,4 @@
--- Functions with their names and types, by where they start.
+-- Functions with their names and types, found by start.
 use Rattle.std.specs.Prelude.{ℕ, ◌==◌, List, [], ◌∷◌, find, Option, Some, None, option_map, Result, Ok}
 use Rattle.std.specs.List.{filter_map}
 use Rattle.std.specs.Option.{option_map_or, option_or}
@@ -19,11 +19,11 @@ pub record FunctionStart : Type 0 where
   pub name : List ℕ
   pub type_index : TypeIndex
 
--- a function that may be known, wherever its name stands
+-- an optional function, with its name as bytes
 abbrev pub seen : Option NamedFunction → Option FunctionStart
 seen known = option_map (λ f. record { start = f.start; name = f.name.now; type_index = f.type_index }) known
 
--- the function that a symbol's content names: a procedure's, or a public symbol's, which has no type
+-- the function of a symbol: a procedure, or a public symbol, which has no type
 abbrev pub function_of : Option SymbolData → Option FunctionStart
 function_of (Some (Procedure symbol)) =
     Some (record { start = place symbol.offset; name = symbol.name; type_index = symbol.type_index })
@@ -45,7 +45,7 @@ abbrev pub function_in : ℕ → List ModuleOrFault → Option FunctionStart
 function_in place [] = None
 function_in place (read ∷ modules) = option_or (function_at place (symbols_of read)) (function_in place modules)
 
--- the function at a place: the first that modules list there, else the first public symbol of the whole program
+-- the function at a place: the first in the modules, otherwise the first public symbol
 abbrev pub any_function : List ModuleOrFault → Result (Read Symbol) StreamError → ℕ → Option FunctionStart
 any_function modules globals place =
     option_or (function_in place modules)

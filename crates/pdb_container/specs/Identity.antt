@@ -1,4 +1,4 @@
--- Which build a PDB file is of.
+-- The identity of a PDB file: which build it belongs to.
 use Rattle.std.specs.Prelude.{Option, Some, None, option_map, option_and_then}
 use Rattle.std.specs.Result.{result_ok}
 use Rattle.pdb_identity.specs.declared.info_header.InfoHeader.{InfoHeader}
@@ -10,15 +10,15 @@ use Rattle.pdb_dbi.specs.DebugHeader.{header}
 use Rattle.pdb_container.specs.declared.identity.DebugBuild.{DebugBuild}
 use Rattle.pdb_container.specs.declared.identity.PdbIdentity.{PdbIdentity}
 
--- what a header says of the build: its age and its machine
+-- the age and the machine in a DBI header
 abbrev pub build_of : DebugHeader → DebugBuild
 build_of front = record { age = front.age; machine = front.machine }
 
--- what the debug information says of the build, where the file has a header of it, in the stream 3
+-- the age and the machine of a file, if its debug information stream, number 3, has a header
 unfoldable pub debug_build : Msf → Option DebugBuild
 debug_build msf = option_map build_of (result_ok (stream_of msf 3 >>= header))
 
--- the identity by what the info stream begins with: the age is that of the debug information, where there is one
+-- the identity by the header of the info stream; the age is that of the debug information, if there is one
 abbrev pub identity_by : Option DebugBuild → InfoHeader → PdbIdentity
 identity_by None front = record {
   debug_id = record { guid = front.guid; age = front.age };
@@ -31,6 +31,6 @@ identity_by (Some build) front = record {
   machine = Some (record { 0 = build.machine });
 }
 
--- which build a container is of, where it has the info stream, with the number 1, as far as the GUID
+-- the identity of a container, if its info stream, number 1, is complete up to the GUID
 unfoldable pub identity : Msf → Option PdbIdentity
 identity msf = option_map (identity_by (debug_build msf)) (option_and_then info_header (result_ok (stream_of msf 1)))

@@ -1,4 +1,4 @@
--- The string table: texts that records name by their places.
+-- The string table: texts that records refer to by their offsets.
 use Rattle.std.specs.Prelude.{ℕ, ◌+◌, ◌-◌, ◌==◌, not, nat_lt, List, [], ◌∷◌, ◌++◌, take, drop, length, codes}
 use Rattle.std.specs.Prelude.{Result, Ok, Err, if◌then◌else◌}
 use Rattle.pdb_records.specs.Readings.{Read}
@@ -13,22 +13,22 @@ use Rattle.pdb_msf.specs.NumberLists.{number}
 use Rattle.pdb_msf.specs.Readings.{whole}
 use Rattle.pdb_container.specs.Info.{named_stream}
 
--- the text that stands next in a table of so many bytes, with the place at which it begins, and what stands after it
+-- the next text of a table of `whole` bytes, with its offset, and the bytes after it
 abbrev pub next_text : ℕ → List ℕ → Result ((StringRef × List ℕ) × List ℕ) StreamError
 next_text whole bytes = do
   text ← first_text bytes
   Ok ((record { 0 = whole - length bytes }, text.0), text.1)
 
--- all texts of these bytes, by their places
+-- all texts of these bytes, with their offsets
 abbrev pub all_texts : List ℕ → Read (StringRef × List ℕ)
 all_texts bytes = all_items (next_text (length bytes)) bytes
 
--- how many bytes the texts have together: the number at 8
+-- the size of all texts in bytes: the number at 8
 abbrev pub texts_size : List ℕ → ℕ
 texts_size stream = number (drop 8 stream)
 
--- the string table of a stream: its signature, the version of its hashes, the size of the texts, and the texts; where
--- one of these isn't there as a whole, there is no table
+-- the string table of a stream: its signature, the version of its hashes, the size of the texts, and the texts. It is
+-- an error if one of these is incomplete
 unfoldable pub string_table_in : List ℕ → Result (List (StringRef × List ℕ)) StreamError
 string_table_in stream =
     if nat_lt (length stream) 4 then Err CUT else
@@ -40,7 +40,7 @@ string_table_in stream =
 abbrev pub names_name : List ℕ
 names_name = codes "/names" ++ 0 ∷ []
 
--- the string table of a container: that of the stream which the info stream, with the number 1, names so
+-- the string table of a container: the stream named `/names` in the info stream, number 1
 unfoldable pub string_table : Msf → Result (List (StringRef × List ℕ)) StreamError
 string_table msf = do
   number ← named_stream names_name (stream_of msf 1)

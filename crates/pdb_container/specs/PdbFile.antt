@@ -14,12 +14,12 @@ use Rattle.pdb_container.specs.PdbFileError.{Reason, refusal_of}
 use Rattle.pdb_container.specs.NameStream.{string_table}
 use Rattle.pdb_container.specs.TypeRecords.{id_information, type_information}
 
--- a table of these symbols, or why there is none
+-- a symbol table with these symbols, or why there is none
 abbrev pub table_of : Result (Read Symbol) StreamError → Result SymbolTable StreamError
 table_of (Ok symbols) = Ok (record { symbols = symbols })
 table_of (Err fault) = Err fault
 
--- the records of a container: each part as it stands there, or the fault that it is broken by
+-- the records of a container: each part, or the fault that breaks it
 abbrev pub records : Msf → Records
 records msf = record {
   sections = sections msf;
@@ -36,10 +36,10 @@ records msf = record {
 abbrev pub records_of : List ℕ → Result Records ContainerError
 records_of file = of_file records file
 
--- why nothing can be answered over the records of a container, if so
+-- why the records of a container can't be used, if so
 abbrev pub refusal_in : Msf → Option Reason
 refusal_in msf = refusal_of (version (stream_of msf 1)) (records msf)
 
--- whether a container lists that it has names alone
+-- whether a container is listed as having only names
 abbrev pub has_names_only : Msf → Bool
 has_names_only msf = (features (stream_of msf 1)).names_only

@@ -9,14 +9,14 @@ debug_s_lines = 0xf2
 abbrev pub debug_s_filechksms : ℕ
 debug_s_filechksms = 0xf4
 
--- functions whose bodies stand in the module's code
+-- functions that are inlined in the module's code
 abbrev pub debug_s_inlineelines : ℕ
 debug_s_inlineelines = 0xf6
 
--- what the module takes from others
+-- the module's imports from other modules
 abbrev pub debug_s_crossscopeimports : ℕ
 debug_s_crossscopeimports = 0xf7
 
--- what it offers to others
+-- the module's exports to other modules
 abbrev pub debug_s_crossscopeexports : ℕ
 debug_s_crossscopeexports = 0xf8

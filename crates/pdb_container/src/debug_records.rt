@@ -1,4 +1,4 @@
-//! What the stream of debug information leads to: modules, contributions, sections, addresses, symbols, their streams.
+//! Reads the debug information stream (DBI) and the streams that it names: sections, address map, global symbols.
 
 ghost use Rattle.std.specs.Prelude.{◌≡◌, ◌++◌, Ok, Err, IfErr, IfOk, OnOk, option_map};
 ghost use Rattle.pdb_container.specs.DebugRecords.{address_map, address_map_of, debug_header, debug_information};
@@ -21,29 +21,29 @@ use pdb_msf::{Container, StreamBytes};
 use pdb_records::{AddressMap, DebugInformation, ImageSectionHeader, StreamError, SymbolTable};
 use std::alloc::Global;
 
-/// The number of the stream of debug information.
+/// The number of the debug information stream (DBI).
 pub const DEBUG: u32 = 3;
 
-/// Where the streams are named that not every file has: two for addresses that were rearranged, and the
-/// headers of the sections.
+/// Positions in the optional debug header: two streams for addresses that were rearranged (OMAP), and the section
+/// headers.
 const REARRANGED_TO: usize = 3;
 
 const REARRANGED_FROM: usize = 4;
 
 pub const SECTIONS: usize = 5;
 
-/// What stands in the stream of debug information and in the streams that it names.
+/// The records in the debug information stream and in the streams that it names.
 #[derive(Drop)]
 pub struct DebugRecords {
     pub debug_information: Result<DebugInformation, StreamError>,
     pub sections: Result<Option<Vec<ImageSectionHeader>>, StreamError>,
     pub address_map: Result<AddressMap, StreamError>,
     pub global_symbols: Result<SymbolTable, StreamError>,
-    /// Where the streams of modules say that their records stand.
+    /// The stream of each module, with the sizes of its parts.
     pub module_streams: Vec<ModuleStream>,
 }
 
-/// What the stream of debug information leads to.
+/// Reads the debug information stream and the streams that it names.
 #[tactic(auto, unfolding(crate::specs::DebugRecords::debug_header))]
 pub fn debug_records(alloc: Global, container: &Container<'_>) -> Result<DebugRecords, Fault>
     ensures information { IfOk result (λ read. read.debug_information ≡ debug_information container.now) }
@@ -63,7 +63,7 @@ pub fn debug_records(alloc: Global, container: &Container<'_>) -> Result<DebugRe
     }
 }
 
-/// The stream of debug information, unless it has no bytes.
+/// The debug information stream. An empty one counts as missing.
 #[tactic(auto, unfolding(crate::specs::DebugRecords::debug_stream))]
 pub fn debug_stream<'a>(alloc: Global, container: &Container<'a>) -> Result<StreamBytes<'a>, Fault>
     ensures { Gives bytes_of result (debug_stream container.now) }
@@ -74,7 +74,7 @@ pub fn debug_stream<'a>(alloc: Global, container: &Container<'a>) -> Result<Stre
     container.stream(alloc, DEBUG)
 }
 
-// All that the stream of debug information leads to fails with it.
+// The records if the debug information stream can't be read: each part has its error.
 #[tactic(auto, using(crate::proofs::DebugLemmas::without_header))]
 fn without_debug_stream(
     alloc: Global,
@@ -208,7 +208,7 @@ fn mapped_addresses(
     }
 }
 
-// Whether a stream says how addresses were rearranged: one that is there and empty says nothing.
+// Whether a stream says how addresses were rearranged. A stream that is present and empty doesn't.
 fn is_rearranged(container: &Container<'_>, number: Option<u16>) -> bool
     ensures { result ≡ rearranges container.now number }
 {
@@ -218,7 +218,7 @@ fn is_rearranged(container: &Container<'_>, number: Option<u16>) -> bool
     }
 }
 
-// The symbols of the whole program, in the stream of this number.
+// Reads the global symbols, in the stream of this number.
 #[tactic(auto, unfolding(crate::specs::DebugRecords::symbol_stream))]
 fn global_symbols(
     alloc: Global,

@@ -1,4 +1,4 @@
-//! What is had of a PDB file before any of its modules is read.
+//! Reads everything in a PDB file except types, ids and module streams.
 
 ghost use Rattle.std.specs.Prelude.{◌≡◌, length, replicate, IfErr, IfOk, None, Ok};
 ghost use Rattle.pdb_container.specs.DebugRecords.{address_map, debug_information, global_symbols, sections};
@@ -18,20 +18,21 @@ use pdb_records::{ItemInformation, PDB};
 use pdb_tpi::no_ids;
 use std::alloc::{AllocError, Global};
 
-/// The numbers of the streams that stand at fixed places.
+/// The numbers of the streams of types and ids, which are fixed.
 pub const TYPES: u32 = 2;
 
 pub const IDS: u32 = 4;
 
-/// What a container has beside its modules, and beside the types and the ids of streams.
+/// The records of a container without its types, ids and modules.
 #[derive(Drop)]
 pub struct Front {
-    /// Where the records of each module stand.
+    /// Which stream has the records of each module.
     pub places: Vec<ModulePlace>,
     pub records: PDB,
 }
 
-/// What a container has beside its modules, and beside types and ids of streams, where its file is so long.
+/// Reads the records of a container without its types, ids and modules. `file_length` bounds how many bytes of module
+/// streams may be read.
 pub fn read_front(
     alloc: Global,
     container: &Container<'_>,
@@ -52,7 +53,7 @@ pub fn read_front(
     Ok(Front { places, records })
 }
 
-// The records of a container, without types, ids and what is known of its so many modules.
+// The records of a container without types and ids, and with `module_count` unread modules.
 #[tactic(auto, using(crate::proofs::RecordLemmas::table_of_tabled))]
 fn records_without_modules(
     alloc: Global,
@@ -87,7 +88,7 @@ fn records_without_modules(
     })
 }
 
-// So many modules of which nothing is known.
+// `count` modules without records.
 fn nothing_known(alloc: Global, count: usize) -> Result<Vec<ModuleInfoResult>, AllocError>
     ensures count { IfOk result (λ infos. length infos.items ≡ count) }
     ensures unread { IfOk result (λ infos. infos.items ≡ replicate count (Ok None)) }

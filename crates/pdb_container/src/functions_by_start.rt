@@ -1,4 +1,4 @@
-//! Functions with their names and types, by where they start.
+//! Tables of functions by their starts, with names and types.
 
 ghost use Rattle.std.specs.Prelude.{◌≡◌, ℕ, IfOk, OnOk};
 ghost use Rattle.std.specs.BTreeMap.{get};
@@ -14,16 +14,16 @@ use pdb_tables::insert_first;
 use std::alloc::{AllocError, Global};
 use std::collections::BTreeMap;
 
-/// A function by where it starts, with its name and its type.
+/// A function that symbols list: its start, name and type.
 #[derive(Clone, Copy)]
 pub struct NamedFunction<'a> {
-    /// The place at which it starts.
+    /// The section offset of its start, as one number (`place`).
     pub start: u64,
     pub name: &'a RawString,
     pub type_index: TypeIndex,
 }
 
-/// Functions by the places at which they start.
+/// Functions by their starts.
 pub type Functions<'a> = BTreeMap<u64, NamedFunction<'a>>;
 
 fn function_of(content: &Option<SymbolData>) -> Option<NamedFunction<'_>>
@@ -44,7 +44,7 @@ fn function_of(content: &Option<SymbolData>) -> Option<NamedFunction<'_>>
     }
 }
 
-// Remembers the functions that symbols list, of each place the first.
+// Adds the functions that symbols list. At each start the first one is kept.
 fn add_functions<'m>(functions: &mut Functions<'m>, symbols: &'m [Symbol]) -> Result<(), AllocError>
     ensures { OnOk result ((asked : ℕ) → seen (get nat_cmp functions.new asked)
         ≡ option_or (seen (get nat_cmp functions.old asked)) (function_at asked symbols.now)) }
@@ -57,7 +57,7 @@ fn add_functions<'m>(functions: &mut Functions<'m>, symbols: &'m [Symbol]) -> Re
     Ok(())
 }
 
-/// Of each place the first function that symbols list there.
+/// The functions that symbols list, by start. At each start the first one counts.
 pub fn functions_of<'m>(alloc: Global, symbols: &'m [Symbol]) -> Result<Functions<'m>, AllocError>
     ensures { IfOk result (λ functions.
         (asked : ℕ) → seen (get nat_cmp functions asked) ≡ function_at asked symbols.now) }
@@ -67,7 +67,7 @@ pub fn functions_of<'m>(alloc: Global, symbols: &'m [Symbol]) -> Result<Function
     Ok(functions)
 }
 
-/// Of each place the first function that modules list there, else the first public symbol.
+/// The functions that modules list, by start, and public symbols at other starts. At each start the first one counts.
 pub fn all_functions<'m>(
     alloc: Global,
     modules: &'m [ModuleInfoResult],

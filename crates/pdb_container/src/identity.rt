@@ -1,4 +1,4 @@
-//! Which build a PDB file is of: its GUID, its age, when it was made, and for which processor.
+//! The identity of a PDB file: its GUID, its age, when it was made, and the machine.
 
 ghost use Rattle.std.specs.Prelude.{◌≡◌, ◌≤◌, IfErr, IfOk, option_map};
 ghost use Rattle.std.specs.Result.{result_ok};
@@ -16,17 +16,19 @@ use pdb_msf::faults::{Fault, part_or_fault};
 use pdb_msf::{Container, ContainerError, MsfLayout, OpenError, Source, SourceError, StreamSubset};
 use std::alloc::Global;
 
-/// What says which build a PDB file is of.
+/// The identity of a PDB file.
 #[derive(Debug, Clone, Copy, PartialEq, Eq)]
 pub struct PdbIdentity {
-    /// The GUID, and the age of the debug information, which is the one that programs have; else that of the file.
+    /// The GUID, and the age in the debug information, which programs have too. If it can't be read, the age of the
+    /// info stream.
     pub debug_id: DebugId,
-    /// When the file was made, in seconds since 1970, or a hash where the linker was told to make the same file again.
+    /// When the file was made, in seconds since 1970. If the linker was told to make reproducible files, this is a
+    /// hash.
     pub time_stamp: u32,
     pub machine: Option<Machine>,
 }
 
-/// Which build a PDB file is of. Nothing where its info stream can't be read as far as the GUID.
+/// Reads the identity of a PDB file. `None` if its info stream can't be read as far as the GUID.
 pub fn read_identity(alloc: Global, bytes: &[u8]) -> Result<Option<PdbIdentity>, ContainerError>
     ensures { Opens (λ found. found) result (of_file identity bytes.now) }
 {
@@ -34,8 +36,8 @@ pub fn read_identity(alloc: Global, bytes: &[u8]) -> Result<Option<PdbIdentity>,
     Ok(identity_in(alloc, &container)?)
 }
 
-/// Which build a PDB file of this length is of that is read range by range. The errors are those of
-/// [`MsfLayout::read`](crate::StreamMap::read).
+/// Reads the identity of a PDB file of this length, range by range. The errors are those of
+/// [`MsfLayout::read`](crate::MsfLayout::read).
 pub fn read_identity_of<S: Source>(
     alloc: Global,
     source: &mut S,
@@ -91,7 +93,7 @@ fn identity_in(alloc: Global, container: &Container<'_>) -> Result<Option<PdbIde
     Ok(Some(identity_by(build, front)))
 }
 
-// The identity by what the info stream begins with, and what the debug information says.
+// The identity by the header of the info stream, and the build in the debug information.
 fn identity_by(build: Option<DebugBuild>, front: InfoHeader) -> PdbIdentity
     ensures { result ≡ identity_by build front }
 {
@@ -105,7 +107,7 @@ fn identity_by(build: Option<DebugBuild>, front: InfoHeader) -> PdbIdentity
     }
 }
 
-/// What the header of the debug information says of the build.
+/// The age and the machine in the header of the debug information.
 #[derive(Clone, Copy)]
 struct DebugBuild {
     age: u32,
@@ -123,7 +125,7 @@ fn debug_build(alloc: Global, container: &Container<'_>) -> Result<Option<DebugB
     }
 }
 
-// What the header of these bytes says of the build.
+// The age and the machine in the header of these bytes; `None` if it can't be read.
 fn build_in(debug: &[u8]) -> Option<DebugBuild>
     ensures { result ≡ option_map build_of (result_ok (header debug.now)) }
 {

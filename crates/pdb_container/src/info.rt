@@ -1,4 +1,4 @@
-//! The info stream: the version, the named streams, and what the file lists that it has.
+//! Reads the info stream: the version, the named streams, and the list of features.
 
 ghost use Rattle.std.specs.Prelude.{◌≡◌, ◌≤◌, ◌<◌, ◌==◌, ◌||◌, drop, length, IfErr, IfOk, OnErr, OnOk};
 ghost use Rattle.pdb_container.specs.Info.{all_numbers, bits_size, features, features_by, features_in};
@@ -19,32 +19,32 @@ pub const INFO: u32 = 1;
 /// The bytes before the named streams: version, signature, age and GUID.
 const FRONT: usize = 28;
 
-/// The first version whose files have ids. Its number stands where others list what they have, and nothing follows.
+/// The first version whose files have ids. This number is in the place of a feature list, and nothing follows it.
 const FIRST_WITH_IDS: u32 = 20_091_201;
 
-/// The number by which a file lists that it has ids.
+/// The feature number of a file with ids.
 const HAS_IDS: u32 = 20_140_508;
 
-/// The number by which a file lists that it names what stands in object files, and has only public symbols itself: the
+/// The feature number of a file whose lines and types are in object files, with only public symbols of its own: the
 /// letters `MINI`.
 const NAMES_ONLY: u32 = 0x494e_494d;
 
-/// What a file lists that it has.
+/// The features that a file lists.
 #[derive(Clone, Copy)]
 pub struct Features {
-    /// Whether the stream of ids is one.
+    /// Whether the file has a stream of ids.
     pub ids: bool,
-    /// Whether the lines and types stand in object files.
+    /// Whether lines and types are in object files.
     pub names_only: bool,
 }
 
-/// What a file has that lists nothing.
+/// The features of a file that lists none.
 const NO_FEATURES: Features = Features {
     ids: false,
     names_only: false,
 };
 
-/// The bytes of the info stream, or why they can't be read. Contracts see just these.
+/// The bytes of the info stream, or why they can't be read. Contracts see only these.
 #[derive(Drop)]
 pub struct InfoStream<'a> {
     bytes: Result<StreamBytes<'a>, StreamError>,
@@ -59,7 +59,7 @@ impl<'a> Model for InfoStream<'a> {
 }
 
 impl<'a> InfoStream<'a> {
-    /// The info stream of a file.
+    /// Reads the info stream of a file.
     pub fn read(alloc: Global, container: &Container<'a>) -> Result<Self, Fault>
         ensures answer { IfOk result (λ info. info ≡ stream_of container.now 1) }
         ensures memory { IfErr result (λ fault. fault ≡ Fault.OutOfMemory) }
@@ -69,7 +69,7 @@ impl<'a> InfoStream<'a> {
         })
     }
 
-    /// The version of the file, or 0 where the stream has none.
+    /// The version of the file; 0 if the stream can't be read so far.
     pub fn version(&self) -> u32
         ensures { result ≡ version self.now }
     {
@@ -79,7 +79,7 @@ impl<'a> InfoStream<'a> {
         }
     }
 
-    /// The number of the stream of this name, which is given with the zero after it.
+    /// The number of the stream with this name, which includes the zero at its end.
     pub fn named_stream(&self, name: &[u8]) -> Result<u32, StreamError>
         ensures { result ≡ named_stream name.now self.now }
     {
@@ -89,7 +89,7 @@ impl<'a> InfoStream<'a> {
         }
     }
 
-    /// What the file lists that it has. A stream that can't be read, or ends before the list, lists nothing.
+    /// The features that the file lists. If the stream can't be read as far as the list, there are none.
     pub fn features(&self) -> Features
         ensures { result ≡ features self.now }
     {
@@ -100,7 +100,7 @@ impl<'a> InfoStream<'a> {
     }
 }
 
-// The number of the stream of this name in these bytes.
+// The number of the stream with this name, by the bytes of the info stream.
 fn number_of_name(info: &[u8], name: &[u8]) -> Result<u32, StreamError>
     ensures { result ≡ named_stream_number name.now info.now }
 {
@@ -116,7 +116,7 @@ fn number_of_name(info: &[u8], name: &[u8]) -> Result<u32, StreamError>
     Err(NO_STREAM)
 }
 
-// What these bytes list.
+// The features that the bytes of the info stream list.
 #[tactic(auto, unfolding(crate::specs::Info::features_in))]
 fn features_in(info: &[u8]) -> Features
     ensures { result ≡ features_in info.now }
@@ -128,7 +128,7 @@ fn features_in(info: &[u8]) -> Features
     }
 }
 
-// The features that these numbers list, to the end or to the number after which nothing follows.
+// The features that these numbers list, up to the end or to `FIRST_WITH_IDS`.
 fn take_features(mut bytes: Bytes<'_>) -> Features
     ensures { result ≡ features_by (all_numbers bytes.entry) }
 {
@@ -146,7 +146,7 @@ fn take_features(mut bytes: Bytes<'_>) -> Features
     features
 }
 
-// These features, and the one that the number lists, if it lists one.
+// The features with the one that the number means, if it means any.
 fn with_listed(features: Features, listed: u32) -> Features
     ensures ids { result.ids ≡ (features.ids || (listed == 20140508)) }
     ensures names_only { result.names_only ≡ (features.names_only || (listed == 1229867341)) }
@@ -157,7 +157,7 @@ fn with_listed(features: Features, listed: u32) -> Features
     }
 }
 
-// The names of the table of streams, and how many it has. Its entries are left.
+// Reads the front of the table of named streams: the names, and the number of entries. Leaves the entries.
 fn take_table_front<'a>(bytes: &mut Bytes<'a>) -> Result<(&'a [u8], u32), StreamError>
     ensures names { IfOk result (λ front. front.0.now ≡ names bytes.old) }
     ensures size { IfOk result (λ front. front.1 ≡ table_size bytes.old) }
@@ -176,7 +176,7 @@ fn take_table_front<'a>(bytes: &mut Bytes<'a>) -> Result<(&'a [u8], u32), Stream
     Ok((names, count))
 }
 
-// Passes over what stands before the list of features.
+// Skips everything before the list of features.
 fn pass_table(bytes: &mut Bytes<'_>) -> Result<(), StreamError>
     ensures there { OnOk result (features_place bytes.old ≤ length bytes.old) }
     ensures state { OnOk result (bytes.new ≡ drop (features_place bytes.old) bytes.old) }
@@ -187,7 +187,7 @@ fn pass_table(bytes: &mut Bytes<'_>) -> Result<(), StreamError>
     Ok(())
 }
 
-// Passes over a set of bits, which says which slots of the table hold an entry.
+// Skips a bit set that says which slots of the table have an entry.
 fn pass_bits(bytes: &mut Bytes<'_>) -> Result<(), StreamError>
     ensures there { OnOk result (bits_size bytes.old ≤ length bytes.old) }
     ensures state { OnOk result (bytes.new ≡ drop (bits_size bytes.old) bytes.old) }
@@ -199,7 +199,7 @@ fn pass_bits(bytes: &mut Bytes<'_>) -> Result<(), StreamError>
     Ok(())
 }
 
-// Whether the name stands at this place.
+// Whether the names have this one at the offset `start`.
 fn stands_at(names: &[u8], start: usize, name: &[u8]) -> bool
     ensures { result ≡ stands_at names.now name.now start }
 {

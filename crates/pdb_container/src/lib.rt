@@ -1,8 +1,7 @@
-//! A reader of PDB files: the bytes of a file in, the records of `pdb_records` out.
+//! Reads PDB files: turns the bytes of a file into the records of `pdb_records`.
 //!
-//! [`read_pdb`] answers an error only where the file as a whole can't be read. What of a file is broken
-//! by itself is a failed stream or the fault of a reading in the records, with one of the numbers of
-//! [`faults`].
+//! [`read_pdb`] returns an error only if the file as a whole can't be read. If only a part is broken, the records have
+//! a failed stream, or a reading with a fault. Its number is one of those in [`faults`].
 #![tactic(auto)]
 
 mod debug_records;

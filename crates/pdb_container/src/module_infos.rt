@@ -1,4 +1,4 @@
-//! What is known of each module of a file, with names for code without one.
+//! Reads the records of each module, and names its chunks and jumps that have no name of their own.
 
 ghost use Rattle.std.specs.Prelude.{◌≡◌, IfErr, IfOk};
 ghost use Rattle.pdb_container.specs.DebugRecords.{global_symbols, module_infos, streams_of_modules, tabled};
@@ -12,7 +12,8 @@ use pdb_msf::faults::Fault;
 use pdb_records::{StreamError, SymbolTable};
 use std::alloc::Global;
 
-/// What is known of each module of a container, of which the symbols of the whole program were read.
+/// The records of each module of a container; `None` for a module without a stream. Chunks and jumps get names from
+/// `symbols`, the global symbols.
 #[tactic(auto, unfolding(crate::specs::DebugRecords::module_infos))]
 pub fn module_infos(
     alloc: Global,
@@ -30,7 +31,7 @@ pub fn module_infos(
     Ok(infos)
 }
 
-// What is known of each module, before code without a name is named.
+// Reads the records of each module. Chunks and jumps don't have names yet.
 #[tactic(auto, unfolding(crate::specs::ModulePlaces::modules_read))]
 fn read_modules(
     alloc: Global,

@@ -1,4 +1,4 @@
-//! Where the records of each module stand, and whether they are read: the module's stream, if it has one.
+//! Which stream has the records of each module, and whether it is read.
 
 ghost use Rattle.std.specs.Prelude.{◌≡◌, Some, Ok, IfErr, IfOk};
 ghost use Rattle.pdb_msf.specs.Faults.{Gives};
@@ -12,15 +12,14 @@ use pdb_msf::faults::{Fault, TOO_LONG, part_or_fault};
 use pdb_records::{ModuleInfo, StreamError};
 use std::alloc::{AllocError, Global};
 
-/// What is known of a module, or why it can't be read.
+/// The records of a module, `None` if it has no stream, or why they can't be read.
 pub type ModuleInfoResult = Result<Option<ModuleInfo>, StreamError>;
 
-/// Where the records of a module stand, `None` of a module without records, or why they aren't read.
+/// Which stream has the records of a module, `None` if it has none, or why it isn't read.
 pub type ModulePlace = Result<Option<ModuleStream>, StreamError>;
 
-/// Where the records of each module stand, in a file of this length. Of the streams of all modules no more bytes are
-/// read than the file has: the records of a module aren't read whose stream is longer than what the streams before it
-/// leave of that.
+/// Which stream has the records of each module. Together at most `file_length` bytes of module streams are read. A
+/// module whose stream is longer than the bytes that are left gets an error.
 pub fn module_places(
     alloc: Global,
     container: &Container<'_>,
@@ -37,7 +36,7 @@ pub fn module_places(
     Ok(places)
 }
 
-// Where the records of a module stand, where so many bytes may still be read.
+// Which stream has the records of a module. `left` is how many bytes of module streams may still be read.
 fn place_within(container: &Container<'_>, place: ModuleStream, left: &mut usize) -> ModulePlace
     ensures answer { result ≡ place_within container.now left.old place }
     ensures state { left.new ≡ left_behind container.now left.old place }
@@ -53,7 +52,7 @@ fn place_within(container: &Container<'_>, place: ModuleStream, left: &mut usize
     Ok(Some(place))
 }
 
-/// What is known of a module whose records stand there, or why they can't be read.
+/// Reads the records of a module, or says why they can't be read.
 pub fn read_module_info(
     alloc: Global,
     container: &Container<'_>,
@@ -65,7 +64,7 @@ pub fn read_module_info(
     part_or_fault(placed_module(alloc, container, place))
 }
 
-// What is known of a module whose records stand there.
+// Reads the records of a module.
 fn placed_module(
     alloc: Global,
     container: &Container<'_>,
@@ -80,7 +79,7 @@ fn placed_module(
     module_in_stream(alloc, place, stream.as_slice())
 }
 
-/// What is known of a module by the bytes of its stream.
+/// Reads the records of a module from the bytes of its stream.
 pub fn module_in_stream(
     alloc: Global,
     place: ModuleStream,

@@ -1,4 +1,4 @@
-//! A module's stream: its symbols, and the subsections of lines, files, inlinees, imports and exports.
+//! Reads a module's stream: its symbols, and the subsections of lines, files, inlinees, imports and exports.
 
 ghost use Rattle.std.specs.Prelude.{◌≡◌, Ok, Err, map, option_map, IfErr, IfOk, MatchResult};
 ghost use Rattle.pdb_msf.specs.Faults.{Gives};
@@ -20,10 +20,10 @@ use pdb_records::{
 use std::alloc::{AllocError, Global};
 use std::marker::Model;
 
-/// The form of symbols that is known, as the number in front of them.
+/// The only known form of symbols (C13), by the number before them.
 const SYMBOLS_FORM: u32 = 4;
 
-/// The bytes of that number.
+/// The size of that number in bytes.
 const SYMBOLS_FRONT: u32 = 4;
 
 const LINES: u32 = 0xf2;
@@ -36,7 +36,7 @@ const IMPORTS: u32 = 0xf7;
 
 const EXPORTS: u32 = 0xf8;
 
-/// A subsection of what is known of a module's code: lines, files, inlinees, imports or exports.
+/// A subsection of a module's debug data: lines, files, inlinees, imports or exports.
 #[derive(Drop)]
 struct Subsection<'a> {
     kind: u32,
@@ -51,7 +51,7 @@ impl<'a> Model for Subsection<'a> {
     ghost view = { λ s. record { kind = s.kind; content = s.content.now } };
 }
 
-/// What is known of a module, by the bytes of its stream.
+/// Reads the records of a module from the bytes of its stream.
 #[tactic(auto, unfolding(crate::specs::ModuleStreams::module_in))]
 pub fn read_module(alloc: Global, place: ModuleStream, stream: &[u8]) -> Result<ModuleInfo, Fault>
     ensures answer { IfOk result (λ info. info ≡ module_in place stream.now) }
@@ -64,7 +64,7 @@ pub fn read_module(alloc: Global, place: ModuleStream, stream: &[u8]) -> Result<
     read_parts(alloc, &symbols, &lines)
 }
 
-// What the symbols of a module and its subsections say.
+// Reads the records of a module from its symbols and subsections.
 fn read_parts(
     alloc: Global,
     symbols: &Substream<'_>,
@@ -90,7 +90,7 @@ fn read_parts(
     })
 }
 
-// The subsections of a substream, one after the other.
+// Reads the subsections of a substream in turn.
 fn read_subsections<'a>(
     alloc: Global,
     substream: &Substream<'a>,
@@ -102,7 +102,7 @@ fn read_subsections<'a>(
     Ok(list)
 }
 
-/// Subsections, without what fills them up.
+/// Reads subsections, without the padding after each.
 #[derive(Drop)]
 struct Subsections;
 
@@ -150,7 +150,8 @@ fn all_of_kind<'a>(
     Ok(all)
 }
 
-// The content of the first subsection of this kind, none where there is no such one and all were read.
+// The content of the first subsection of this kind. If there is none, it is empty; or an error, if not all subsections
+// could be read.
 fn first_or_empty<'a>(
     subsections: &Reading<Subsection<'a>>,
     kind: u32,
@@ -165,7 +166,7 @@ fn first_or_empty<'a>(
     }
 }
 
-// What sites refer to: files, and the functions whose bodies stand in the module's code.
+// Reads what inline sites refer to: files and inlinees.
 fn read_code(alloc: Global, subsections: &Reading<Subsection<'_>>) -> Result<CodeRecords, Fault>
     ensures code { IfOk result (λ code. code_of code ≡ code_in subsections.now) }
     ensures files { IfOk result (λ code. code.files.fault ≡ (files_of subsections.now).fault) }
@@ -178,7 +179,7 @@ fn read_code(alloc: Global, subsections: &Reading<Subsection<'_>>) -> Result<Cod
     Ok(CodeRecords { files, inlinees })
 }
 
-// The symbols after the number of their form. They end early where the stream does.
+// Reads the symbols after the number of their form. They end early if the stream does.
 fn module_symbols(
     alloc: Global,
     substream: &Substream<'_>,
@@ -202,7 +203,8 @@ fn module_symbols(
     }
 }
 
-// The rows of all functions, and the files. A broken list of subsections or of files fails them all.
+// Reads the line rows of all functions, and the files. If the list of subsections or of files is broken, there are
+// none.
 fn read_line_program(
     alloc: Global,
     subsections: &Reading<Subsection<'_>>,
@@ -225,7 +227,7 @@ fn read_line_program(
     })
 }
 
-// All subsections of lines.
+// Reads all subsections of lines.
 fn read_all_lines(
     alloc: Global,
     subsections: &[&[u8]],

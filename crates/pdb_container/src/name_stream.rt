@@ -1,4 +1,4 @@
-//! The stream of names: texts by their offsets.
+//! Reads the stream `/names`: strings by their offsets.
 
 ghost use Rattle.pdb_container.specs.NameStream.{string_table_in};
 ghost use Rattle.pdb_msf.specs.Faults.{Gives};
@@ -8,10 +8,10 @@ use pdb_msf::{Bytes, ItemReader, copy_name, read_all_items};
 use pdb_records::{RawString, StringRef, StringTable};
 use std::alloc::Global;
 
-/// What the table begins with.
+/// The first four bytes of the table.
 const SIGNATURE: u32 = 0xeffe_effe;
 
-/// The texts of the stream of names, each under its offset in the table.
+/// Reads the strings of the stream `/names`, each with its offset in the table.
 #[tactic(auto, unfolding(crate::specs::NameStream::string_table_in))]
 pub fn read_strings(alloc: Global, stream: &[u8]) -> Result<StringTable, Fault>
     ensures { Gives (λ table. table) result (string_table_in stream.now) }
@@ -34,7 +34,7 @@ pub fn read_strings(alloc: Global, stream: &[u8]) -> Result<StringTable, Fault>
     Ok(StringTable { strings })
 }
 
-/// The texts of a table of so many bytes.
+/// Reads the strings of a table of `whole` bytes.
 #[derive(Drop)]
 struct TextReader {
     alloc: Global,

@@ -1,4 +1,4 @@
-//! What a reader is made of that reads a file as it is asked.
+//! The parts from which a session builds a reader that reads a file piece by piece.
 
 pub use crate::debug_records::{DEBUG, SECTIONS, debug_stream};
 pub use crate::front::{Front, IDS, TYPES, read_front};

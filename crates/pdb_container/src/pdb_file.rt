@@ -1,4 +1,4 @@
-//! All records of a PDB file: which streams are read, and which failed.
+//! Reads all records of a PDB file from its bytes.
 
 ghost use Rattle.std.specs.Prelude.{◌≡◌, Ok, IfErr, IfOk, option_map};
 ghost use Rattle.pdb_container.specs.DebugRecords.{of_file};
@@ -21,23 +21,24 @@ use pdb_records::{IdInformation, PDB, StringTable, TypeInformation};
 use pdb_tpi::{no_ids, read_items};
 use std::alloc::Global;
 
-/// The name of the stream of texts, with the zero after it.
+/// The name of the stream of strings, with the zero at its end.
 pub const NAMES: [u8; 7] = *b"/names\0";
 
-/// What a PDB file has.
+/// The content of a PDB file.
 #[derive(Drop)]
 pub struct PdbFile {
     pub records: PDB,
-    /// Why nothing can be answered over the records, if so.
+    /// Why nothing can be answered over the records; `None` if answers are possible.
     pub refusal: Option<PdbFileError>,
-    /// Whether the file has names alone, since it was made with `/DEBUG:FASTLINK`: lines and types are in objects.
+    /// Whether the file was linked with `/DEBUG:FASTLINK`: it has only names, and lines and types are in object files.
     pub names_only: bool,
 }
 
-/// The records of a PDB file.
+/// Reads the records of a PDB file.
 ///
-/// An error where the file is none, or is cut short before the end of its directory, or its streams are longer than the
-/// file together, or there is no memory. All else that is broken is a failed stream or a fault in the records.
+/// An error is returned if memory runs out, or if the file isn't a PDB file, is cut before the end of its directory, or
+/// has streams that are longer together than the file. Any other broken part is a failed stream or a fault in the
+/// records.
 pub fn read_pdb(alloc: Global, bytes: &[u8]) -> Result<PDB, ContainerError>
     ensures { Opens (λ pdb. pdb) result (records_of bytes.now) }
 {
@@ -46,7 +47,7 @@ pub fn read_pdb(alloc: Global, bytes: &[u8]) -> Result<PDB, ContainerError>
     Ok(read_records(alloc, &container, &info)?)
 }
 
-/// The records of a PDB file, and what a reader of them wants to be told. The errors are those of [`read_pdb`].
+/// Reads the records of a PDB file, and what a user should be told about it. The errors are those of [`read_pdb`].
 pub fn read_pdb_file(alloc: Global, bytes: &[u8]) -> Result<PdbFile, ContainerError>
     ensures answer { Opens (λ file. file.records) result (records_of bytes.now) }
     ensures refusal { Opens (λ file. option_map reason_of file.refusal) result (of_file refusal_in bytes.now) }
@@ -94,7 +95,7 @@ fn read_records(
     })
 }
 
-/// The texts of the stream of that name.
+/// Reads the strings of the stream `/names`.
 #[tactic(auto, unfolding(crate::specs::NameStream::string_table))]
 pub fn read_texts(
     alloc: Global,
@@ -117,7 +118,7 @@ fn type_information(alloc: Global, container: &Container<'_>) -> Result<TypeInfo
     Ok(from_memory(read_items(alloc, &mut container.file(), blocks))??)
 }
 
-// The ids. A file that doesn't list that it has ids, as those from before there were any, has none.
+// Reads the ids. A file that doesn't list the feature of ids, such as an old one, has none.
 #[tactic(auto, unfolding(crate::specs::TypeRecords::id_information))]
 fn id_information(
     alloc: Global,
@@ -138,7 +139,7 @@ fn id_information(
     }
 }
 
-// What is read from memory, all of which can be read.
+// Turns an error of reading from memory, which can only be that memory ran out.
 fn from_memory<T>(outcome: Result<T, SourceError>) -> Result<T, Fault>
     ensures answer { IfOk result (λ value. outcome ≡ Ok value) }
     ensures memory { IfErr result (λ fault. fault ≡ Fault.OutOfMemory) }

@@ -1,4 +1,4 @@
-//! Why nothing can be answered over the records of a PDB file, in words.
+//! `PdbFileError`: why nothing can be answered over the records of a PDB file, with messages.
 
 ghost use Rattle.std.specs.Prelude.{◌≡◌, option_map};
 ghost use Rattle.pdb_container.specs.PdbFileError.{code_refusal, debug_reason, reason_of, refusal_of};
@@ -11,13 +11,13 @@ use thiserror::Error;
 /// Why nothing can be answered over the records of a PDB file.
 #[derive(Debug, Clone, Copy, PartialEq, Eq, Error)]
 pub enum PdbFileError {
-    /// The file is one that a compiler keeps beside its objects.
+    /// The file is one that a compiler writes for its object files, not a linker for a program.
     #[error("a compiler's PDB file, of objects and not of a program")]
     OfObjects,
-    /// The types have a form that isn't read. The number is the file's version.
+    /// The types have an unsupported format. The number is the file's version.
     #[error("types: made by a version from before 2005 ({0})")]
     OldTypes(u32),
-    /// Nothing says where the sections are loaded.
+    /// The file has no section headers, so it isn't known where the sections are loaded.
     #[error("no section headers (stripped)")]
     NoSectionHeaders,
     /// Addresses were rearranged after linking.
@@ -28,8 +28,8 @@ pub enum PdbFileError {
     Broken(&'static str, &'static str),
 }
 
-/// Why nothing can be answered over the records of a file of this version, if so. Of several reasons the first counts,
-/// in the order debug information, global symbols, types, ids, sections, address map.
+/// Why nothing can be answered over the records of a file of this version; `None` if answers are possible. The first
+/// reason counts, in the order debug information, global symbols, types, ids, sections, address map.
 pub fn refusal_of(version: u32, records: &PDB) -> Option<PdbFileError>
     ensures { option_map reason_of result ≡ refusal_of version records.now }
 {
@@ -48,8 +48,8 @@ pub fn refusal_of(version: u32, records: &PDB) -> Option<PdbFileError>
     sections_refusal(records)
 }
 
-/// Why nothing can be answered over records even without public symbols, types and ids, if so. Of several reasons the
-/// first counts, in the order debug information, sections, address map.
+/// Why nothing can be answered over the records, even if public symbols, types and ids aren't needed; `None` if answers
+/// are possible. The first reason counts, in the order debug information, sections, address map.
 pub fn code_refusal(records: &PDB) -> Option<PdbFileError>
     ensures { option_map reason_of result ≡ code_refusal records.now }
 {
@@ -59,7 +59,7 @@ pub fn code_refusal(records: &PDB) -> Option<PdbFileError>
     }
 }
 
-// Nothing says where the code is loaded.
+// The refusal if it isn't known where sections are loaded.
 fn sections_refusal(records: &PDB) -> Option<PdbFileError>
     ensures { option_map reason_of result ≡ sections_refusal records.now }
 {
@@ -73,7 +73,7 @@ fn sections_refusal(records: &PDB) -> Option<PdbFileError>
     }
 }
 
-// Without debug information a file is of no program.
+// The refusal if the debug information can't be read. A file without any doesn't belong to a program.
 fn debug_refusal(error: StreamError) -> PdbFileError
     ensures { reason_of result ≡ debug_reason error }
 {

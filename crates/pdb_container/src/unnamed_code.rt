@@ -1,7 +1,7 @@
-//! Code without a name of its own, chunks and jumps: it becomes procedures that go by their function's name.
+//! Turns chunks and jumps, which have no name of their own, into procedures with their function's name.
 //!
-//! Further chunks of a function and the jumps of incremental links: each jump, and each chunk that the list has
-//! elsewhere than after its function, becomes such a procedure.
+//! These are the jumps of incremental links, and the chunks of a function whose symbol doesn't directly follow that of
+//! the function.
 
 ghost use Rattle.std.specs.Prelude.{◌≡◌, ◌++◌, ◌==◌, not, ℕ, List, None, length, IfErr, IfOk, OnOk};
 ghost use Rattle.std.specs.BTreeMap.{get};
@@ -28,7 +28,7 @@ use pdb_records::{
 use std::alloc::{AllocError, Global};
 use std::marker::Model;
 
-/// Code of a module that has no name.
+/// A chunk or a jump in a module's symbols.
 #[derive(Drop)]
 struct SeparatedChunk<'m> {
     /// The position of its symbol.
@@ -45,13 +45,13 @@ impl<'m> Model for SeparatedChunk<'m> {
     ghost view = { λ c. record { position = c.position; raw_kind = c.raw_kind; code = c.code.now } };
 }
 
-/// Code that becomes a procedure of its own.
+/// A chunk or a jump of a module, with its function if the module lists that.
 #[derive(Drop)]
 struct UnnamedCode<'m> {
     module_index: usize,
     position: usize,
     code: &'m SeparatedCodeSymbol,
-    /// The function of a chunk, where its own module lists it.
+    /// The function of a chunk, if its own module lists it.
     own: Option<NamedFunction<'m>>,
 }
 
@@ -69,7 +69,7 @@ impl<'m> Model for UnnamedCode<'m> {
     } };
 }
 
-/// What becomes of a symbol.
+/// The procedure that replaces a symbol.
 #[derive(Drop)]
 struct RenamedSymbol {
     module_index: usize,
@@ -77,8 +77,8 @@ struct RenamedSymbol {
     procedure: ProcedureSymbol,
 }
 
-/// Makes procedures of the code without a name, where its function is known. They take no more bytes of names
-/// together than there is room for, and what finds no room stays as it is.
+/// Turns chunks and jumps into procedures, if their function is known. The names together take at most `room` bytes.
+/// Code whose name doesn't fit stays as it is.
 #[tactic(auto, unfolding(crate::specs::UnnamedCode::named_modules))]
 pub fn name_unnamed_code(
     alloc: Global,
@@ -96,7 +96,7 @@ pub fn name_unnamed_code(
     Ok(())
 }
 
-// What becomes of the symbols of code without a name.
+// Lists the procedures that replace chunks and jumps.
 fn list_renamed_symbols(
     alloc: Global,
     modules: &[ModuleInfoResult],
@@ -115,7 +115,7 @@ fn list_renamed_symbols(
     renamed_symbols_of(alloc, &codes, &functions, room)
 }
 
-// The code without a name of all modules.
+// Lists the chunks and jumps of all modules.
 fn list_unnamed_code<'m>(
     alloc: Global,
     modules: &'m [ModuleInfoResult],
@@ -129,7 +129,7 @@ fn list_unnamed_code<'m>(
     Ok(codes)
 }
 
-// The symbols of a module that was read.
+// The symbols of a module; none if it can't be read.
 fn symbols_of(read: &ModuleInfoResult) -> &[Symbol]
     ensures { result.now ≡ symbols_of read.now }
 {
@@ -139,7 +139,7 @@ fn symbols_of(read: &ModuleInfoResult) -> &[Symbol]
     }
 }
 
-// Appends the code without a name of a module's symbols.
+// Appends the chunks and jumps in a module's symbols.
 fn push_unnamed_code<'m>(
     alloc: Global,
     module_index: usize,
@@ -164,7 +164,7 @@ fn push_unnamed_code<'m>(
     Ok(())
 }
 
-// The function of code of this kind, where it is a chunk and its own module lists it.
+// The function of a chunk, if its own module lists it. A jump has none here.
 fn own_function<'m>(
     functions: &Functions<'m>,
     raw_kind: u16,
@@ -180,7 +180,7 @@ fn own_function<'m>(
     functions.get(&place(code.parent_offset)).copied()
 }
 
-/// Whether a module's symbols have code without a name, whose function other modules may list.
+/// Whether a module's symbols have chunks or jumps. Their function may be in another module.
 pub fn has_unnamed_code(alloc: Global, symbols: &[Symbol]) -> Result<bool, AllocError>
     ensures { IfOk result (λ has. has ≡ not (length (separated_from 0 None symbols.now) == 0)) }
 {
@@ -188,7 +188,7 @@ pub fn has_unnamed_code(alloc: Global, symbols: &[Symbol]) -> Result<bool, Alloc
     Ok(!separated.is_empty())
 }
 
-// The code of a module's symbols that stands apart from its function.
+// Lists the chunks and jumps in a module's symbols.
 fn list_separated_code<'m>(
     alloc: Global,
     symbols: &'m [Symbol],
@@ -210,7 +210,8 @@ fn list_separated_code<'m>(
     Ok(separated)
 }
 
-// The code of a symbol, where it stands elsewhere than after the code that starts where its function does.
+// The code of a jump, or of a chunk that isn't directly after the code of its function. `before` is where the code of
+// the symbol before starts.
 fn separated_code(
     raw_kind: u16,
     before: Option<u64>,
@@ -231,7 +232,7 @@ fn separated_code(
     }
 }
 
-// Where the code starts of the last symbol that has some, this one among them.
+// The start of the last code so far, with this symbol's code.
 fn start_or(before: Option<u64>, content: &Option<SymbolData>) -> Option<u64>
     ensures { result ≡ start_or before (span_of content.now) }
 {
@@ -241,7 +242,7 @@ fn start_or(before: Option<u64>, content: &Option<SymbolData>) -> Option<u64>
     }
 }
 
-// What becomes of the symbols of code, where names may take so many bytes.
+// Lists the procedures that replace the symbols of this code. Their names together take at most `room` bytes.
 fn renamed_symbols_of<'m>(
     alloc: Global,
     codes: &[UnnamedCode<'m>],
@@ -271,7 +272,7 @@ fn renamed_symbols_of<'m>(
     Ok(list)
 }
 
-// The function that code is of.
+// The function to which code belongs: in its own module, or else in any.
 fn function_for<'m>(code: &UnnamedCode<'m>, functions: &Functions<'m>) -> Option<NamedFunction<'m>>
     ensures { seen result
         ≡ option_or code.now.own (seen (get nat_cmp functions.now (place code.now.code.parent_offset))) }
@@ -300,7 +301,7 @@ fn procedure_of(
     })
 }
 
-// Puts a procedure in the place of a symbol.
+// Replaces a symbol by a procedure.
 fn name_code(modules: &mut [ModuleInfoResult], renamed_symbol: RenamedSymbol)
     ensures { modules.new ≡ named modules.old renamed_symbol }
 {
@@ -330,7 +331,7 @@ fn name_in(info: &mut ModuleInfo, position: usize, procedure: ProcedureSymbol)
     }
 }
 
-// Of a jump the kind becomes one that has code.
+// Replaces a symbol's content by a procedure. A jump gets the kind of a thunk, because its own kind has no code.
 fn name_symbol(symbol: &mut Symbol, procedure: ProcedureSymbol)
     ensures { symbol.new ≡ named_symbol procedure symbol.old }
 {

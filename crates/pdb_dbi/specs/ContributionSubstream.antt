@@ -1,4 +1,4 @@
--- Section contributions: which bytes of the sections came from which module.
+-- Section contributions: which bytes of the sections belong to which module.
 use Rattle.std.specs.Prelude.{ℕ, ◌==◌, nat_lt, List, drop, length, Option, Some, None, if◌then◌else◌}
 use Rattle.pdb_records.specs.Readings.{Read}
 use Rattle.pdb_records.specs.declared.debug_information.SectionContribution.{SectionContribution}
@@ -17,18 +17,18 @@ contribution bytes = record {
   «module» = two_byte_number (drop 16 bytes);
 }
 
--- how many bytes a contribution has: 28 in a list of the version V60, 32 in one of V2, which has one more number
+-- the size of a contribution: 28 bytes in a list of version V60, and 32 in one of V2, which has one more number
 abbrev pub contribution_size : ℕ → Option ℕ
 contribution_size version =
     if version == dbi_sc_version_60 then Some 28 else
     if version == dbi_sc_version_2 then Some 32 else None
 
--- contributions of this size, none where no version has one
+-- the contributions of this size; an error if the version is unknown and so there is no size
 abbrev pub sized_contributions : Option ℕ → List ℕ → Read SectionContribution
 sized_contributions None bytes = nothing_read (Some UNKNOWN_VERSION)
 sized_contributions (Some size) bytes = entry_list contribution size bytes
 
--- the list of contributions: without bytes there are none; else the version stands in four bytes in front of them
+-- the list of contributions: empty bytes have none; otherwise a four-byte version comes first
 unfoldable pub contribution_list : List ℕ → Read SectionContribution
 contribution_list bytes =
     if length bytes == 0 then nothing_read None else

@@ -1,4 +1,4 @@
--- The header of the stream of debug information, and the substreams after it.
+-- The header of the debug information stream (DBI), and the substreams after it.
 use Rattle.std.specs.Prelude.{ℕ, ◌+◌, ◌==◌, nat_lt, not, List, drop, length, Result, Ok, Err, if◌then◌else◌}
 use Rattle.pdb_records.specs.declared.error.StreamError.{StreamError}
 use Rattle.pdb_records.specs.declared.debug_information.MachineType.{MachineType}
@@ -15,50 +15,50 @@ use Rattle.pdb_dbi.specs.Substreams.{substream}
 abbrev pub version_signature : ℕ
 version_signature = 4294967295
 
--- ModInfoSize, at 24: how many bytes the list of modules has
+-- ModInfoSize, at 24: the size of the list of modules in bytes
 abbrev pub mod_info_size : List ℕ → ℕ
 mod_info_size stream = number (drop 24 stream)
 
--- SectionContributionSize, at 28: how many bytes the section contributions have
+-- SectionContributionSize, at 28: the size of the section contributions in bytes
 abbrev pub section_contribution_size : List ℕ → ℕ
 section_contribution_size stream = number (drop 28 stream)
 
--- SectionMapSize, at 32: how many bytes the section map has
+-- SectionMapSize, at 32: the size of the section map in bytes
 abbrev pub section_map_size : List ℕ → ℕ
 section_map_size stream = number (drop 32 stream)
 
--- SourceInfoSize, at 36: how many bytes the list of source files has
+-- SourceInfoSize, at 36: the size of the list of source files in bytes
 abbrev pub source_info_size : List ℕ → ℕ
 source_info_size stream = number (drop 36 stream)
 
--- TypeServerMapSize, at 40: how many bytes the map of type servers has
+-- TypeServerMapSize, at 40: the size of the map of type servers in bytes
 abbrev pub type_server_map_size : List ℕ → ℕ
 type_server_map_size stream = number (drop 40 stream)
 
--- OptionalDbgHeaderSize, at 48: how many bytes the optional debug header has
+-- OptionalDbgHeaderSize, at 48: the size of the optional debug header in bytes
 abbrev pub optional_dbg_header_size : List ℕ → ℕ
 optional_dbg_header_size stream = number (drop 48 stream)
 
--- ECSubstreamSize, at 52: how many bytes the names of edit and continue have
+-- ECSubstreamSize, at 52: the size of the edit-and-continue names in bytes
 abbrev pub ec_substream_size : List ℕ → ℕ
 ec_substream_size stream = number (drop 52 stream)
 
--- the list of modules stands after the header, which has 64 bytes
+-- where the list of modules starts: after the 64-byte header
 abbrev pub modules_place : ℕ
 modules_place = 64
 
--- the section contributions stand after the list of modules
+-- where the section contributions start: after the list of modules
 abbrev pub contributions_place : List ℕ → ℕ
 contributions_place stream = modules_place + mod_info_size stream
 
--- the optional debug header stands last, after contributions, section map, source files, type servers, and edit and
--- continue
+-- where the optional debug header starts: last, after contributions, section map, source files, type servers, and
+-- edit-and-continue names
 abbrev pub optional_place : List ℕ → ℕ
 optional_place stream =
     contributions_place stream + section_contribution_size stream + section_map_size stream + source_info_size stream
     + type_server_map_size stream + ec_substream_size stream
 
--- the machines that have names in the records: x64, Arm64 and its form beside code of x64, Itanium, RISC-V
+-- the machine type of a number: x64, Arm64 (which includes Arm64EC), Itanium, RISC-V, or another
 abbrev pub machine_type : ℕ → MachineType
 machine_type code =
     if code == image_file_machine_amd64 then kind.Amd64 else
@@ -69,7 +69,7 @@ machine_type code =
     if code == image_file_machine_riscv128 then kind.RiscV128 else
     kind.Other
 
--- what is read of the header: Age at 8, SymRecordStream at 20, Machine at 58, and three of the substreams
+-- the fields of the header that are read: Age at 8, SymRecordStream at 20, Machine at 58, and three of the substreams
 abbrev pub header_fields : List ℕ → DebugHeader
 header_fields stream = record {
   age = number (drop 8 stream);
@@ -81,7 +81,7 @@ header_fields stream = record {
   optional_streams = substream (optional_dbg_header_size stream) (drop (optional_place stream) stream);
 }
 
--- the header of a stream: all of its 64 bytes, of which the first four are the signature
+-- the header of a stream: it needs all 64 bytes, and the signature in the first four
 unfoldable pub header : List ℕ → Result DebugHeader StreamError
 header stream =
     if nat_lt (length stream) 64 then Err CUT else

@@ -11,12 +11,12 @@ use Rattle.pdb_msf.specs.Readings.{with_fault}
 use Rattle.pdb_dbi.specs.declared.module_substream.ModuleStream.{ModuleStream}
 use Rattle.pdb_dbi.specs.Substreams.{SubstreamBytes}
 
--- a module of the list: its name, and where its own records stand
+-- a module in the list: its name, and the stream of its records
 pub record ListedModule : Type 0 where
   pub name : List ℕ
   pub stream : ModuleStream
 
--- where a module's records stand: ModuleSymStream at 34, SymByteSize at 36, C11ByteSize at 40 and C13ByteSize at 44
+-- the stream of a module's records: ModuleSymStream at 34, SymByteSize at 36, C11ByteSize at 40 and C13ByteSize at 44
 abbrev pub module_stream : List ℕ → ModuleStream
 module_stream bytes = record {
   stream = two_byte_number (drop 34 bytes);
@@ -25,25 +25,25 @@ module_stream bytes = record {
   lines = number (drop 44 bytes);
 }
 
--- the module that stands first, and what stands after it: after 64 bytes stand its name (ModuleName) and that of its
--- object file (ObjFileName), which each end in a zero
+-- the first module, and the bytes after it. A module has 64 bytes, then its name (ModuleName) and that of its object
+-- file (ObjFileName), which each end in a zero
 abbrev pub first_module : List ℕ → Result (ListedModule × List ℕ) StreamError
 first_module bytes = do
   name ← first_text (drop 64 bytes)
   object_file ← first_text name.1
   Ok (record { name = name.0; stream = module_stream (take 64 bytes) }, object_file.1)
 
--- all modules of these bytes, each filled up to a multiple of four bytes
+-- all modules of these bytes, each padded to a multiple of four bytes
 abbrev pub module_list : List ℕ → Read ListedModule
 module_list bytes = all_items (first_padded first_module) bytes
 
--- the modules of a substream, by their names
+-- the modules of a substream, with their names
 abbrev pub modules : SubstreamBytes → Read Module
 modules substream = with_fault substream.fault (record {
   items = map (λ listed. record { name = listed.name }) (module_list substream.bytes).items;
   fault = (module_list substream.bytes).fault;
 })
 
--- where the records of each module of a substream stand
+-- the stream of each module's records, by the substream of modules
 abbrev pub module_streams : SubstreamBytes → List ModuleStream
 module_streams substream = map (λ listed. listed.stream) (module_list substream.bytes).items

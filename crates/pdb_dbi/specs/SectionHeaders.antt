@@ -1,4 +1,4 @@
--- Section headers, which are laid out as those of a program (IMAGE_SECTION_HEADER), and the map of addresses.
+-- Section headers, with the layout of those in a program (IMAGE_SECTION_HEADER), and the address map.
 use Rattle.std.specs.Prelude.{ℕ, ◌==◌, bit_and, not, List, drop, map, Result}
 use Rattle.pdb_records.specs.declared.error.StreamError.{StreamError}
 use Rattle.pdb_records.specs.declared.addresses.AddressRange.{AddressRange}
@@ -8,7 +8,7 @@ use Rattle.pdb_msf.specs.ItemLists.{entry_list}
 use Rattle.pdb_msf.specs.Readings.{whole}
 use Rattle.pdb_dbi.specs.PublishedNumbers.{image_scn_mem_execute}
 
--- a section header: VirtualSize at 8, VirtualAddress at 12, and the flag of code that is run in Characteristics, at 36
+-- a section header: VirtualSize at 8, VirtualAddress at 12, and the execute flag in Characteristics, at 36
 abbrev pub section_header : List ℕ → ImageSectionHeader
 section_header bytes = record {
   virtual_address = number (drop 12 bytes);
@@ -16,14 +16,14 @@ section_header bytes = record {
   execute = not (bit_and (number (drop 36 bytes)) image_scn_mem_execute == 0);
 }
 
--- the section headers of a stream, 40 bytes each; a stream that ends within one is broken as a whole
+-- the section headers of a stream, 40 bytes each; an incomplete header makes the whole stream an error
 unfoldable pub section_headers : List ℕ → Result (List ImageSectionHeader) StreamError
 section_headers stream = whole (entry_list section_header 40 stream)
 
--- the addresses of a section
+-- the address range of a section
 abbrev pub address_range : ImageSectionHeader → AddressRange
 address_range section = record { virtual_address = section.virtual_address; virtual_size = section.virtual_size }
 
--- where the sections are loaded: each at its own address, in their order
+-- the address ranges at which the sections are loaded, in their order
 abbrev pub loaded_at : List ImageSectionHeader → List AddressRange
 loaded_at sections = map address_range sections

@@ -1,4 +1,4 @@
-//! Section contributions: which bytes of the sections came from which module.
+//! Reads section contributions: which bytes of the sections came from which module.
 
 ghost use Rattle.std.specs.Prelude.{◌≡◌, ◌≤◌, length, IfErr, IfOk, IfSome};
 ghost use Rattle.pdb_dbi.specs.ContributionSubstream.{contribution, contribution_list, contribution_size, contributions};
@@ -15,7 +15,7 @@ const V60: u32 = 0xf12e_ba2d;
 /// The version of a list of contributions with 32 bytes each.
 const V2: u32 = 0xf131_51e4;
 
-/// Which bytes of the sections came from which module.
+/// Reads the section contributions.
 pub fn read_contributions(
     alloc: Global,
     substream: &Substream<'_>,
@@ -28,7 +28,7 @@ pub fn read_contributions(
     Ok(contributions)
 }
 
-// The list that these bytes are: its version, and the contributions.
+// Reads a list of contributions, which follows its version.
 #[tactic(auto, unfolding(crate::specs::ContributionSubstream::contribution_list))]
 fn read_list(alloc: Global, bytes: &[u8]) -> Result<Reading<SectionContribution>, AllocError>
     ensures { IfOk result (λ reading. reading ≡ contribution_list bytes.now) }
@@ -47,7 +47,7 @@ fn read_list(alloc: Global, bytes: &[u8]) -> Result<Reading<SectionContribution>
     }
 }
 
-// How many bytes a contribution has in a list of this version.
+// The size of a contribution in a list of this version.
 fn contribution_size(version: u32) -> Option<usize>
     ensures answer { result ≡ contribution_size version }
     ensures least { IfSome result (λ size. 28 ≤ size) }
@@ -59,7 +59,7 @@ fn contribution_size(version: u32) -> Option<usize>
     }
 }
 
-/// Contributions of this size.
+/// Reads contributions of this size.
 #[derive(Drop)]
 struct Contributions {
     size: usize,
@@ -79,7 +79,7 @@ impl<'a> ItemReader<'a> for Contributions {
     }
 }
 
-// The contribution that an entry's bytes are.
+// Decodes a contribution.
 fn contribution(entry: &[u8]) -> SectionContribution
     requires { 28 ≤ length entry.now }
     ensures { result ≡ contribution entry.now }

@@ -1,4 +1,4 @@
-//! The header of the stream of debug information, and where it has the substreams that follow.
+//! Reads the header of the debug information stream (DBI), and finds its substreams.
 
 ghost use Rattle.std.specs.Prelude.{◌≡◌, ◌≤◌, ◌<◌, ◌^◌, length};
 ghost use Rattle.pdb_dbi.specs.DebugHeader.{contributions_place, header, header_fields, machine_type, optional_place};
@@ -8,13 +8,13 @@ use pdb_msf::faults::{CUT, UNKNOWN_VERSION};
 use pdb_msf::{number_at, u16_at};
 use pdb_records::{MachineType, StreamError};
 
-/// The bytes of the header.
+/// The size of the header in bytes.
 const HEADER: usize = 64;
 
-/// What the header begins with.
+/// The first four bytes of the header.
 const SIGNATURE: u32 = 0xffff_ffff;
 
-/// Where the header has the sizes of the substreams.
+/// The offsets of the substreams' sizes in the header.
 const MODULES: usize = 24;
 
 const SECTION_CONTRIBUTIONS: usize = 28;
@@ -29,23 +29,23 @@ const OPTIONAL_STREAMS: usize = 48;
 
 const EDIT_AND_CONTINUE: usize = 52;
 
-/// What the stream of debug information says of the whole program.
+/// The fields of the header, and the substreams that are read.
 #[derive(Drop)]
 pub struct DebugHeader<'a> {
     /// How often the debug information was written.
     pub age: u32,
-    /// The number of the processor.
+    /// The number of the machine, as in program headers.
     pub machine: u16,
-    /// The stream of the global symbols.
+    /// The number of the stream of global symbols.
     pub global_symbols: u16,
     pub machine_type: MachineType,
     pub modules: Substream<'a>,
     pub section_contributions: Substream<'a>,
-    /// The numbers of streams that not every file has.
+    /// The optional debug header: numbers of streams that not every file has.
     pub optional_streams: Substream<'a>,
 }
 
-/// The header, and the parts of the stream after it.
+/// Reads the header, and the substreams after it.
 #[tactic(auto, unfolding(crate::specs::DebugHeader::header))]
 pub fn read_header(stream: &[u8]) -> Result<DebugHeader<'_>, StreamError>
     ensures { result ≡ header stream.now }
@@ -59,7 +59,7 @@ pub fn read_header(stream: &[u8]) -> Result<DebugHeader<'_>, StreamError>
     Ok(header_fields(stream))
 }
 
-// What is read of a header that is there as a whole.
+// Decodes a complete header.
 fn header_fields(stream: &[u8]) -> DebugHeader<'_>
     requires { 64 ≤ length stream.now }
     ensures { result ≡ header_fields stream.now }
@@ -84,7 +84,7 @@ fn header_fields(stream: &[u8]) -> DebugHeader<'_>
     }
 }
 
-// Where the section contributions stand: after the modules.
+// The offset of the section contributions: after the modules.
 fn contributions_place(stream: &[u8]) -> usize
     requires { 64 ≤ length stream.now }
     ensures answer { result ≡ contributions_place stream.now }
@@ -93,7 +93,7 @@ fn contributions_place(stream: &[u8]) -> usize
     HEADER + number_at(stream, MODULES) as usize
 }
 
-// Where the optional debug header stands: after all other substreams.
+// The offset of the optional debug header: after all other substreams.
 fn optional_place(stream: &[u8]) -> usize
     requires { 64 ≤ length stream.now }
     ensures { result ≡ optional_place stream.now }
@@ -111,7 +111,7 @@ fn machine_type(number: u16) -> MachineType
 {
     match number {
         0x8664 => MachineType::Amd64,
-        // 0xa641 has the code of Arm64 that goes beside code of x64
+        // 0xa641 (ARM64EC): ARM64 code that runs beside x64 code
         0xaa64 | 0xa641 => MachineType::Arm64,
         0x0200 => MachineType::Ia64,
         0x5064 => MachineType::RiscV64,

@@ -1,6 +1,6 @@
-//! The stream of debug information of a PDB file (DBI): its header, modules, section contributions and sections.
+//! Reads the debug information stream of a PDB file (DBI): its header, modules, section contributions and sections.
 //!
-//! What each of its bytes means is defined in `specs/`, and each call answers that, or that there was no memory.
+//! The meaning of its bytes is defined in `specs/`. Each call returns this meaning, or that memory ran out.
 #![tactic(auto)]
 
 mod contribution_substream;

@@ -1,4 +1,4 @@
-//! The list of modules: their names, and where the records of each stand.
+//! Reads the list of modules: their names, and which stream has the records of each.
 
 ghost use Rattle.std.specs.Prelude.{◌≡◌, ◌++◌, length, map, IfErr, IfOk, OnOk};
 ghost use Rattle.pdb_dbi.specs.ModuleSubstream.{module_list, module_stream, module_streams, modules};
@@ -10,23 +10,23 @@ use pdb_records::{Module, Reading};
 use std::alloc::Global;
 use std::marker::Model;
 
-/// The bytes in front of a module's names.
+/// The size of a module's entry before its names, in bytes.
 const FRONT: usize = 64;
 
-/// Where a module's own records stand.
+/// The stream with a module's records, and the sizes of its parts.
 #[derive(Clone, Copy)]
 pub struct ModuleStream {
-    /// The number of the stream, 65535 where there is none.
+    /// The number of the stream; 65535 if there is none.
     pub stream: u16,
-    /// The bytes of its symbols, with the signature in front of them.
+    /// The size of the symbols in bytes, with the signature before them.
     pub symbols: u32,
-    /// The bytes of lines in the older form.
+    /// The size of lines in the older form (C11), in bytes.
     pub c11_lines: u32,
-    /// The bytes of lines, files and inlinees.
+    /// The size of the subsections of lines, files and inlinees (C13), in bytes.
     pub lines: u32,
 }
 
-/// A module as the list has it.
+/// An entry of the list of modules.
 #[derive(Drop)]
 struct ModuleEntry<'a> {
     name: &'a [u8],
@@ -41,7 +41,7 @@ impl<'a> Model for ModuleEntry<'a> {
     ghost view = { λ m. record { name = m.name.now; stream = m.stream } };
 }
 
-/// The modules in their order, and beside each where its records stand.
+/// Reads the modules in order, and appends the stream of each.
 pub fn read_modules(
     alloc: Global,
     substream: &Substream<'_>,
@@ -56,7 +56,7 @@ pub fn read_modules(
     Ok(modules)
 }
 
-// The list that these bytes are, up to the first module that they end in.
+// Reads a list of modules, up to the first one that is cut off.
 fn read_list(
     alloc: Global,
     bytes: &[u8],
@@ -80,7 +80,7 @@ fn read_list(
     Ok(Reading { items, fault })
 }
 
-/// The modules of the list, without what fills them up.
+/// Reads the entries of the list, without padding.
 #[derive(Drop)]
 struct ModuleEntries;
 

@@ -5,10 +5,10 @@ ghost use Rattle.pdb_dbi.specs.OptionalStreams.{optional_stream, stream_number};
 
 use pdb_msf::{Bytes, bytes_from};
 
-/// The number that stands for no stream.
+/// The number that means that there is no stream.
 const NO_STREAM_NUMBER: u16 = 0xffff;
 
-/// The number of a stream, unless it stands for none.
+/// The number of a stream; `None` if it means that there is none.
 pub fn stream_number(number: u16) -> Option<u16>
     ensures { result ≡ stream_number number }
 {
@@ -18,7 +18,7 @@ pub fn stream_number(number: u16) -> Option<u16>
     Some(number)
 }
 
-/// The number at this position of the streams that not every file has.
+/// The number at a position of the optional debug header; `None` if there is no such stream.
 #[tactic(auto, unfolding(crate::specs::OptionalStreams::optional_stream))]
 pub fn optional_stream(numbers: &[u8], position: usize) -> Option<u16>
     ensures { result ≡ optional_stream numbers.now position }

@@ -1,4 +1,4 @@
-//! The headers of the sections, and the map of addresses that they make.
+//! Reads section headers, and makes the address map from them.
 
 ghost use Rattle.std.specs.Prelude.{◌≡◌, ◌≤◌, length, IfErr, IfOk};
 ghost use Rattle.pdb_msf.specs.Faults.{Gives};
@@ -9,13 +9,13 @@ use pdb_msf::{Bytes, ItemReader, read_all_items, u32_at};
 use pdb_records::{AddressMap, AddressRange, ImageSectionHeader};
 use std::alloc::Global;
 
-/// The bytes of a section's header.
+/// The size of a section header in bytes.
 const HEADER: usize = 40;
 
-/// The bit of a section's flags that says that its bytes are run.
+/// The flag of a section that is executable.
 const EXECUTE: u32 = 0x2000_0000;
 
-/// The headers of the sections.
+/// Reads the section headers.
 #[tactic(auto, unfolding(crate::specs::SectionHeaders::section_headers))]
 pub fn read_sections(alloc: Global, stream: &[u8]) -> Result<Vec<ImageSectionHeader>, Fault>
     ensures { Gives (λ sections. sections.items) result (section_headers stream.now) }
@@ -23,7 +23,7 @@ pub fn read_sections(alloc: Global, stream: &[u8]) -> Result<Vec<ImageSectionHea
     read_all_items(alloc, &SectionHeaders, stream)
 }
 
-/// Headers, one after the other.
+/// Reads section headers in turn.
 struct SectionHeaders;
 
 impl<'a> ItemReader<'a> for SectionHeaders {
@@ -39,7 +39,7 @@ impl<'a> ItemReader<'a> for SectionHeaders {
     }
 }
 
-// The section header that an entry's bytes are.
+// Decodes a section header.
 fn section_header(entry: &[u8]) -> ImageSectionHeader
     requires { length entry.now ≡ 40 }
     ensures { result ≡ section_header entry.now }
@@ -51,7 +51,7 @@ fn section_header(entry: &[u8]) -> ImageSectionHeader
     }
 }
 
-/// Where these sections are loaded.
+/// The address map: where these sections are loaded.
 pub fn map_addresses(alloc: Global, sections: &[ImageSectionHeader]) -> Result<AddressMap, Fault>
     ensures answer { IfOk result (λ mapped. mapped ≡ loaded_at sections.now) }
     ensures memory { IfErr result (λ fault. fault ≡ Fault.OutOfMemory) }
@@ -63,7 +63,7 @@ pub fn map_addresses(alloc: Global, sections: &[ImageSectionHeader]) -> Result<A
     Ok(AddressMap { sections: ranges })
 }
 
-// The addresses of a section.
+// The address range of a section.
 fn address_range(section: &ImageSectionHeader) -> AddressRange
     ensures { result ≡ address_range section.now }
 {

@@ -1,4 +1,4 @@
-//! Substreams: so many bytes of a stream as another place says, as far as they are there.
+//! Substreams: parts of a stream whose lengths are given elsewhere, as far as the stream has their bytes.
 
 ghost use Rattle.std.specs.Prelude.{◌≡◌, drop};
 ghost use Rattle.pdb_dbi.specs.Substreams.{substream};
@@ -8,7 +8,7 @@ use pdb_msf::{Bytes, bytes_from};
 use pdb_records::StreamError;
 use std::marker::Model;
 
-/// The bytes of a substream, as far as the stream has them, and why they end early, if they do.
+/// The bytes of a substream, as far as the stream has them, and the fault if they end early.
 #[derive(Drop)]
 pub struct Substream<'a> {
     pub bytes: &'a [u8],
@@ -23,7 +23,7 @@ impl<'a> Model for Substream<'a> {
     ghost view = { λ s. record { bytes = s.bytes.now; fault = s.fault } };
 }
 
-/// The next bytes, as far as they are there.
+/// Reads the next `length` bytes, or all that are left if there are fewer.
 pub fn take_substream<'a>(rest: &mut Bytes<'a>, length: u32) -> Substream<'a>
     ensures answer { result ≡ substream length rest.old }
     ensures state { rest.new ≡ drop length rest.old }
@@ -40,7 +40,7 @@ pub fn take_substream<'a>(rest: &mut Bytes<'a>, length: u32) -> Substream<'a>
     }
 }
 
-/// The substream of this length that stands at a place of a stream, as far as it is there.
+/// The substream of this length from an offset of a stream on, as far as the stream has it.
 pub fn substream_at(stream: &[u8], place: usize, length: u32) -> Substream<'_>
     ensures { result ≡ substream length (drop place stream.now) }
 {

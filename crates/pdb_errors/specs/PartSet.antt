@@ -14,11 +14,11 @@ module _ {P : Type 0} (cmp : P → P → Ordering) where
   abbrev pub add_part : List P → P → List P
   add_part failed part = insert_key cmp failed part
 
-  -- these parts, and the one that was met broken, if one was
+  -- these parts, and the one that was found broken, if any
   abbrev pub add_met : List P → Option P → List P
   add_met failed None = failed
   add_met failed (Some part) = add_part failed part
 
-  -- what a part answers that is met broken: that it failed before, where it did, else its own error
+  -- the error for a broken part: that it failed before, if it did, otherwise its own error
   abbrev pub error_of_part : {E : Type 0} → (P → E) → List P → P → E → E
   error_of_part unsuccessful failed part e = if has_part failed part then unsuccessful part else e

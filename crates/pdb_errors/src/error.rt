@@ -1,4 +1,4 @@
-//! Why a call has no answer: the errors of this crate and of those above it.
+//! `Error`: why a call has no answer, in this crate and those above it.
 
 ghost use Rattle.std.specs.Prelude.{◌≡◌, ◌≢◌, MatchResult};
 ghost use Rattle.pdb_records.specs.declared.error.Error.TheVariants.{Stream};
@@ -8,7 +8,7 @@ use pdb_records::StreamError;
 use std::alloc::{AllocError, AllocFailed};
 use std::fmt;
 
-/// What a call answers, with this crate's error where none is named.
+/// A result, by default with this crate's error.
 pub type Result<V, E = Error> = std::result::Result<V, E>;
 
 /// Why a call has no answer.
@@ -17,19 +17,19 @@ pub enum Error {
     /// The writer refused a text.
     #[error("Formatting error: {0}")]
     FormatError(fmt::Error),
-    /// The records have no answer.
+    /// A stream of the records can't be read, or the records don't have what was asked for.
     #[error("PDB error: {0}")]
     PdbError(pdb_records::Error),
-    /// The index of a list of arguments names something else.
+    /// The index of an argument list leads to another kind of type.
     #[error("Unexpected type for argument list")]
     ArgumentTypeNotArgumentList,
-    /// The id of a function names a type that is no procedure's.
+    /// The type of a function's id isn't a procedure type.
     #[error("Id of type Function doesn't have type of Procedure")]
     FunctionIdIsNotProcedureType,
-    /// The id of a member function names a type that is no member function's.
+    /// The type of a member function's id isn't a member function type.
     #[error("Id of type MemberFunction doesn't have type of MemberFunction")]
     MemberFunctionIdIsNotMemberFunctionType,
-    /// No call answers this: contributions of one module may stand in any order in each section.
+    /// Never returned: contributions of a module may be in any order in each section.
     #[error("There are consecutive section contributions for module {0} and section {1} which are not ordered by offset")]
     UnorderedSectionContributions(usize, u16),
     /// Two contributions to a section claim the same bytes.
@@ -44,7 +44,7 @@ pub enum Error {
     /// The line program or the inlinees of this module failed before.
     #[error("Getting the extended module info was unsuccessful")]
     ExtendedModuleInfoUnsuccessful,
-    /// An index leads to another module, and there are no texts to find its name in.
+    /// A cross-module index can't be resolved, because there is no string table with the modules' names.
     #[error("Could not resolve cross-module reference due to missing string table")]
     CantResolveCrossModuleRefWithoutStringTable,
     /// The imports of this module failed before.
@@ -56,10 +56,10 @@ pub enum Error {
     /// The exports of this module failed before.
     #[error("Getting the module exports was unsuccessful")]
     ModuleExportsUnsuccessful,
-    /// The module that is imported from exports nothing under this number.
+    /// The module from which an index is imported exports nothing for this number.
     #[error("The local index {0} was not found in the module exports")]
     LocalIndexNotInExports(u32),
-    /// The list of modules has no such module index.
+    /// The list of modules doesn't have this module index.
     #[error("The module index {0} was out-of-range.")]
     OutOfRangeModuleIndex(usize),
     /// The module has no records of its own.
@@ -71,14 +71,14 @@ pub enum Error {
     /// Memory ran out before there was an answer. The same call may succeed later.
     #[error("Out of memory")]
     OutOfMemory,
-    /// A contribution's end lies past 32 bits.
+    /// The end of a contribution doesn't fit 32 bits.
     #[error("The end of a section contribution of module {0} in section {1} does not fit 32 bits")]
     SectionContributionEndTooLarge(usize, u16),
 }
 
 impl Error {
-    /// The error, where it says something of the records. That memory ran out is no answer, and is told as
-    /// `AllocError`: the same call may succeed later.
+    /// The error, unless memory ran out. That memory ran out isn't a property of the records, and becomes `AllocError`:
+    /// the same call may succeed later.
     pub fn unless_out_of_memory(self) -> Result<Error, AllocError>
         ensures { MatchResult result
             (λ error. (error ≡ self) × (self ≢ OutOfMemory))

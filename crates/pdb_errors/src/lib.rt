@@ -1,4 +1,4 @@
-//! What calls are refused with, and sets of parts of the records that were met broken.
+//! The errors of calls, and sets of parts of the records that were found broken.
 #![tactic(auto)]
 
 mod error;

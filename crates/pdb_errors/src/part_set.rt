@@ -1,4 +1,4 @@
-//! Sets of parts of the records that were met broken, and which error such a part answers.
+//! `PartSet`: the parts of the records that were found broken, and the error for each that failed before.
 
 ghost use Rattle.std.specs.Prelude.{◌≡◌, [], IfOk, OnOk, OnErr};
 ghost use Rattle.pdb_errors.specs.PartSet.{has_part, add_part, add_met, error_of_part};
@@ -20,7 +20,7 @@ pub trait BrokenPart: Copy + Ord + Drop {
         ensures { result ≡ unsuccessful_of self };
 }
 
-/// The parts of the records that were met broken, of one sort of parts.
+/// The parts of the records that were found broken, of one kind of part.
 pub struct PartSet<P: BrokenPart> {
     parts: BTreeSet<P>,
 }
@@ -31,7 +31,7 @@ impl<P: BrokenPart> Drop for PartSet<P> {
     }
 }
 
-// Clauses see a set as the list of its parts, in order.
+// Contracts see a set as the list of its parts, in order.
 impl<P: BrokenPart> Model for PartSet<P> {
     ghost use Rattle.std.specs.Prelude.{List};
 
@@ -41,7 +41,7 @@ impl<P: BrokenPart> Model for PartSet<P> {
 }
 
 impl<P: BrokenPart> PartSet<P> {
-    /// No part. It takes no memory.
+    /// An empty set. It takes no memory.
     pub fn new(alloc: Global) -> Self
         ensures { result ≡ [] }
     {
@@ -50,14 +50,14 @@ impl<P: BrokenPart> PartSet<P> {
         }
     }
 
-    /// Whether a part was met broken before.
+    /// Whether a part was found broken before.
     pub fn has_failed(&self, part: P) -> bool
         ensures { result ≡ has_part P.cmp self.now part }
     {
         self.parts.contains(&part)
     }
 
-    /// Remembers a part. Answers `AllocError` where memory runs out, and the set stays.
+    /// Adds a part. `AllocError` if memory runs out; then the set doesn't change.
     pub fn add(&mut self, part: P) -> Result<(), AllocError>
         ensures state { OnOk result (self.new ≡ add_part P.cmp self.old part) }
         ensures unchanged_if_refused { OnErr result (self.new ≡ self.old) }
@@ -68,8 +68,8 @@ impl<P: BrokenPart> PartSet<P> {
         }
     }
 
-    /// Remembers the part that was met broken, if one was. Answers `AllocError` where memory runs out, and the set
-    /// stays.
+    /// Adds a part that was found broken, if there is one. `AllocError` if memory runs out; then the set doesn't
+    /// change.
     pub fn add_met(&mut self, met: Option<P>) -> Result<(), AllocError>
         ensures state { OnOk result (self.new ≡ add_met P.cmp self.old met) }
         ensures unchanged_if_refused { OnErr result (self.new ≡ self.old) }
@@ -80,8 +80,8 @@ impl<P: BrokenPart> PartSet<P> {
         }
     }
 
-    /// What a part that is met broken answers: its own error where it is new, and then it is remembered,
-    /// else that it failed before. Answers `AllocError` where memory runs out, and the set stays.
+    /// The error for a part that was found broken: its own error the first time, when it is added; later the error that
+    /// it failed before. `AllocError` if memory runs out; then the set doesn't change.
     pub fn fail(&mut self, part: P, error: Error) -> Result<Error, AllocError>
         ensures answer { IfOk result (λ e. e ≡ error_of_part P.cmp P.unsuccessful_of self.old part error) }
         ensures state { OnOk result (self.new ≡ add_part P.cmp self.old part) }

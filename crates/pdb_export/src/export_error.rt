@@ -1,4 +1,4 @@
-//! Why records could not be written: no memory, a writer that refused, no place in the format.
+//! `ExportError`: why records could not be written.
 
 use std::alloc::AllocError;
 use thiserror::Error;
@@ -6,14 +6,14 @@ use thiserror::Error;
 /// Why records could not be written.
 #[derive(Debug, Clone, Copy, PartialEq, Eq, Drop, Error)]
 pub enum ExportError {
-    /// There was no memory.
+    /// Memory ran out.
     #[error("out of memory")]
     OutOfMemory,
-    /// The writer refused what was written.
+    /// The writer refused a part of the text.
     #[error("cannot write")]
     CannotWrite,
-    /// The records say what the format has no place for: a position past 32 bits, or of an entry of the types or
-    /// ids an error that no reader gives it.
+    /// The format can't represent the records: a position doesn't fit 32 bits, or a type or id has an error that no
+    /// reader of files gives it.
     #[error("records that no records file can hold")]
     NoRoom,
 }

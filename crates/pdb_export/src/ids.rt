@@ -27,7 +27,7 @@ impl ToMembers for IdData {
     }
 }
 
-/// Writes the members of a function of a class.
+/// Writes the members of a member function.
 fn member_function(text: &mut Writer, id: &MemberFunctionId) -> Result<(), ExportError> {
     member(text, "kind", &"MemberFunction")?;
     member(text, "parent", &id.parent)?;
@@ -35,7 +35,7 @@ fn member_function(text: &mut Writer, id: &MemberFunctionId) -> Result<(), Expor
     member(text, "name", &id.name)
 }
 
-/// Writes the members of a function of no class.
+/// Writes the members of a function that isn't a member of a class.
 fn function(text: &mut Writer, id: &FunctionId) -> Result<(), ExportError> {
     member(text, "kind", &"Function")?;
     optional(text, "scope", &id.scope)?;

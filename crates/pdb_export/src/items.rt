@@ -5,7 +5,7 @@ use crate::members::{ToJson, member};
 use json::Writer;
 use pdb_records::{Error, Item, ItemInformation};
 
-/// What is written as members of an object that has others too.
+/// A value that is written as members of an object, which has other members, too.
 pub(crate) trait ToMembers {
     /// Writes the members.
     fn to_members(&self, text: &mut Writer) -> Result<(), ExportError>;

@@ -1,4 +1,4 @@
-//! Writes names as JSON texts, or as their bytes where they are no UTF-8, and the names of kinds.
+//! Writes names as JSON strings, or as arrays of bytes if they aren't UTF-8, and the names of kinds.
 
 use crate::export_error::ExportError;
 use crate::members::ToJson;
@@ -6,7 +6,7 @@ use json::Writer;
 use pdb_records::RawString;
 use std::str;
 
-/// Writes the name that a kind has among these, or that of all others.
+/// Writes the name of a kind, or `Other` if it isn't in the list.
 pub(crate) fn kind_name<T: Copy + PartialEq>(
     text: &mut Writer,
     names: &[(&str, T)],
@@ -33,7 +33,7 @@ impl ToJson for String {
 }
 
 impl ToJson for RawString {
-    /// Writes a name: a text where it is UTF-8, and else its bytes.
+    /// Writes a name: a string if it is UTF-8, otherwise an array of its bytes.
     fn to_json(&self, text: &mut Writer) -> Result<(), ExportError> {
         match str::from_utf8(&self.0) {
             Ok(name) => name.to_json(text),

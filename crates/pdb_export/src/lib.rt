@@ -1,7 +1,7 @@
 //! Writes the records of a program as a records file of version 2, with modules in it or in files of their own.
 //!
-//! Each record of `pdb_records` has an `impl` of `ToJson` here, in a file of its subject. Text is made for the
-//! records that all modules share, and then for each module, and is handed to the writer before the next is made.
+//! Each record of `pdb_records` has an `impl` of `ToJson` here, in a file of its subject. The text of the shared
+//! records is written first, and then that of each module, so that only one of these texts is in memory at a time.
 #![tactic(auto)]
 
 mod debug_information;

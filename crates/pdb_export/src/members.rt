@@ -1,10 +1,10 @@
-//! Members of JSON objects, lists, readings with their faults, and streams that failed.
+//! Writes members of JSON objects, lists, readings with their faults, and streams that can't be read.
 
 use crate::export_error::ExportError;
 use json::Writer;
 use pdb_records::{Reading, StreamError};
 
-/// What is written as a value of a records file.
+/// A value that can be written into a records file.
 pub(crate) trait ToJson {
     /// Writes the value.
     fn to_json(&self, text: &mut Writer) -> Result<(), ExportError>;
@@ -20,7 +20,7 @@ pub(crate) fn member<T: ToJson>(
     value.to_json(text)
 }
 
-/// Writes a member of an object where it has a value.
+/// Writes a member of an object, if it has a value.
 pub(crate) fn optional<T: ToJson>(
     text: &mut Writer,
     name: &str,
@@ -60,7 +60,7 @@ impl<T: ToJson> ToJson for Reading<T> {
     }
 }
 
-/// Writes the items of a list, and the fault that stands after them.
+/// Writes the items of a list, and the fault at which it ends early.
 fn faulty<T: ToJson>(
     text: &mut Writer,
     items: &Vec<T>,
@@ -81,7 +81,7 @@ impl<T: ToJson> ToJson for Result<T, StreamError> {
     }
 }
 
-/// Writes a stream that could not be read.
+/// Writes the error of a stream that can't be read.
 fn failed(text: &mut Writer, error: StreamError) -> Result<(), ExportError> {
     text.begin_object()?;
     member(text, "error", &error.0)?;

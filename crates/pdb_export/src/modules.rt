@@ -1,4 +1,4 @@
-//! Writes what is known of a module as JSON: symbols, lines, inlinees, imports, exports.
+//! Writes the records of a module as JSON: symbols, lines, inlinees, imports, exports.
 
 use crate::export_error::ExportError;
 use crate::members::{ToJson, member};
@@ -21,7 +21,7 @@ impl ToJson for CrossModuleImports {
 }
 
 impl ToJson for (u32, u32) {
-    /// Writes an export: the number under which an index is offered, and the index.
+    /// Writes an export: its number, and the index of the type or id.
     fn to_json(&self, text: &mut Writer) -> Result<(), ExportError> {
         text.begin_object()?;
         member(text, "local", &self.0)?;

@@ -1,4 +1,4 @@
-//! Writes numbers, indices and truth values as JSON.
+//! Writes numbers, indices and booleans as JSON.
 
 use crate::export_error::ExportError;
 use crate::members::ToJson;
@@ -42,7 +42,7 @@ impl ToJson for i64 {
 }
 
 impl ToJson for usize {
-    /// Writes a position, of which the format holds 32 bits.
+    /// Writes a position, which must fit 32 bits.
     fn to_json(&self, text: &mut Writer) -> Result<(), ExportError> {
         match u32::try_from(*self) {
             Ok(position) => position.to_json(text),

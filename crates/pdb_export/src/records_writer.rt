@@ -1,4 +1,4 @@
-//! Writes a records file, and a file for each module: which members they have, in their order.
+//! Writes a records file, and module files: their members in order.
 
 use crate::export_error::ExportError;
 use crate::members::{ToJson, member};
@@ -9,8 +9,8 @@ use std::io;
 
 /// Writes the records as a records file of version 2.
 ///
-/// What is known of the module at a module index stands in the file of the name that `files` has at that index,
-/// and in the records file itself where it has none. `write_module` writes such a file.
+/// `files` has the name of each module's file. If there is no name for a module, its records are written into the
+/// records file itself. `write_module` writes a module file.
 pub fn write_records<W: io::Write>(
     alloc: Global,
     out: &mut W,
@@ -27,7 +27,7 @@ pub fn write_records<W: io::Write>(
     write_end(out, b"]}\n")
 }
 
-/// Writes what is known of a module as a module file.
+/// Writes the records of a module as a module file.
 pub fn write_module<W: io::Write>(
     alloc: Global,
     out: &mut W,
@@ -63,7 +63,7 @@ fn shared(text: &mut Writer, records: &PDB) -> Result<(), ExportError> {
     Ok(text.begin_array()?)
 }
 
-/// Writes what stands in the list of modules for one of them: what is known of it, or the file that it stands in.
+/// Writes an element of the list of modules: the records of the module, or the name of its file.
 fn write_element<W: io::Write>(
     alloc: Global,
     out: &mut W,
@@ -96,7 +96,7 @@ impl ToJson for ModuleFile<'_> {
     }
 }
 
-/// Writes a value whole.
+/// Writes a complete value.
 fn write_value<W: io::Write, T: ToJson>(
     alloc: Global,
     out: &mut W,
@@ -107,18 +107,18 @@ fn write_value<W: io::Write, T: ToJson>(
     write_bytes(out, text.into_inner().as_slice())
 }
 
-/// Writes the last bytes, and has the writer hand on what it holds back.
+/// Writes the last bytes, and flushes the writer.
 fn write_end<W: io::Write>(out: &mut W, bytes: &[u8]) -> Result<(), ExportError> {
     write_bytes(out, bytes)?;
     fault_of(out.flush())
 }
 
-/// Writes bytes whole.
+/// Writes all bytes.
 fn write_bytes<W: io::Write>(out: &mut W, bytes: &[u8]) -> Result<(), ExportError> {
     fault_of(out.write_all(bytes))
 }
 
-/// What a writer's error means.
+/// Turns a writer's error into that of the export.
 fn fault_of(outcome: io::Result<()>) -> Result<(), ExportError> {
     match outcome {
         Ok(()) => Ok(()),

@@ -1,4 +1,4 @@
-//! Writes the texts of the string table as JSON.
+//! Writes the strings of the string table as JSON.
 
 use crate::export_error::ExportError;
 use crate::members::{ToJson, member};

@@ -39,7 +39,7 @@ impl ToJson for SymbolData {
     }
 }
 
-/// Writes the members of a name that is visible outside its module.
+/// Writes the members of a public symbol.
 fn public(text: &mut Writer, symbol: &PublicSymbol) -> Result<(), ExportError> {
     member(text, "kind", &"Public")?;
     section_offset(text, symbol.offset)?;
@@ -56,7 +56,7 @@ fn procedure(text: &mut Writer, symbol: &ProcedureSymbol) -> Result<(), ExportEr
     member(text, "type_index", &symbol.type_index)
 }
 
-/// Writes the members of code that stands apart from its procedure's body.
+/// Writes the members of separated code.
 fn separated_code(text: &mut Writer, symbol: &SeparatedCodeSymbol) -> Result<(), ExportError> {
     member(text, "kind", &"SeparatedCode")?;
     section_offset(text, symbol.offset)?;
@@ -66,7 +66,7 @@ fn separated_code(text: &mut Writer, symbol: &SeparatedCodeSymbol) -> Result<(),
     member(text, "end", &symbol.end)
 }
 
-/// Writes the members of a short piece of code that leads to a procedure.
+/// Writes the members of a thunk.
 fn thunk(text: &mut Writer, symbol: &ThunkSymbol) -> Result<(), ExportError> {
     member(text, "kind", &"Thunk")?;
     section_offset(text, symbol.offset)?;
@@ -75,7 +75,7 @@ fn thunk(text: &mut Writer, symbol: &ThunkSymbol) -> Result<(), ExportError> {
     member(text, "end", &symbol.end)
 }
 
-/// Writes the members of a place where a call was replaced by the callee's body.
+/// Writes the members of an inline site.
 fn inline_site(text: &mut Writer, symbol: &InlineSiteSymbol) -> Result<(), ExportError> {
     member(text, "kind", &"InlineSite")?;
     member(text, "inlinee", &symbol.inlinee)?;

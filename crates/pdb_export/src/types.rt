@@ -41,7 +41,7 @@ impl ToMembers for TypeData {
     }
 }
 
-/// Writes the members of a type that the compiler brings.
+/// Writes the members of a primitive type.
 fn primitive(text: &mut Writer, data: PrimitiveType) -> Result<(), ExportError> {
     member(text, "kind", &"Primitive")?;
     member(text, "primitive", &data.kind)?;
@@ -70,7 +70,7 @@ impl ToJson for ClassKind {
     }
 }
 
-/// Writes the members of the type of a function that belongs to a class.
+/// Writes the members of the type of a member function.
 fn member_function(text: &mut Writer, data: MemberFunctionType) -> Result<(), ExportError> {
     member(text, "kind", &"MemberFunction")?;
     member(text, "return_type", &data.return_type)?;
@@ -80,7 +80,7 @@ fn member_function(text: &mut Writer, data: MemberFunctionType) -> Result<(), Ex
     member(text, "argument_list", &data.argument_list)
 }
 
-/// Writes the members of the type of a function that belongs to no class.
+/// Writes the members of the type of a function that isn't a member.
 fn procedure(text: &mut Writer, data: ProcedureType) -> Result<(), ExportError> {
     member(text, "kind", &"Procedure")?;
     optional(text, "return_type", &data.return_type)?;
@@ -142,7 +142,7 @@ impl ToJson for Variant {
     }
 }
 
-/// Writes a number with the kind that it was declared with.
+/// Writes a number with its declared kind.
 fn variant<T: ToJson>(text: &mut Writer, kind: &str, value: &T) -> Result<(), ExportError> {
     text.begin_object()?;
     member(text, "kind", &kind)?;
@@ -150,7 +150,7 @@ fn variant<T: ToJson>(text: &mut Writer, kind: &str, value: &T) -> Result<(), Ex
     Ok(text.end_object()?)
 }
 
-/// Writes the members of a type with `const` before it, or without.
+/// Writes the members of a modifier.
 fn modifier(text: &mut Writer, data: ModifierType) -> Result<(), ExportError> {
     member(text, "kind", &"Modifier")?;
     member(text, "underlying_type", &data.underlying_type)?;

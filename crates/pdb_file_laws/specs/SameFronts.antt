@@ -1,4 +1,4 @@
--- When two files have the same front: what is read before any of their modules.
+-- When two files have the same front: the streams that are read before any module.
 use Rattle.std.specs.Prelude.{◌≡◌, ℕ, Some, Ok}
 use Rattle.pdb_msf.specs.Msf.{Msf, stream_of}
 use Rattle.pdb_dbi.specs.OptionalStreams.{optional_stream, stream_number}
@@ -7,8 +7,8 @@ use Rattle.pdb_container.specs.DebugRecords.{debug_header}
 use Rattle.pdb_container.specs.Info.{named_stream}
 use Rattle.pdb_container.specs.NameStream.{names_name}
 
--- two containers have streams of the same sizes, and the same bytes of the info stream, of the stream of debug
--- information, and of the streams that these two name for symbols, for section headers and for texts
+-- two containers have streams of the same sizes, and the same bytes of the info stream, of the debug information
+-- stream, and of the streams that these two name for symbols, section headers and strings
 pub record SameFronts (a b : Msf) : Type 0 where
   pub sizes : a.sizes ≡ b.sizes
   pub info : stream_of a 1 ≡ stream_of b 1

@@ -1,6 +1,6 @@
-//! Laws of what PDB files say of their programs, which follow from the definitions of the crates below.
+//! Laws on the records of PDB files, which follow from the definitions of the crates below.
 //!
-//! Each function here does nothing. Its contract is a law, for all files, and the check proves it.
+//! Each function here does nothing. Its contract states a law, which the checker proves for all files.
 #![tactic(auto)]
 
 pub mod fronts;

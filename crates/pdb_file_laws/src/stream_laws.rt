@@ -1,4 +1,4 @@
-//! What a file's records depend on: its streams, and how long it is.
+//! Laws: a file's records depend only on its streams and its length.
 
 ghost use Rattle.std.specs.Prelude.{◌≡◌, ◌≤◌, ◌++◌, ℕ, List, Ok, length};
 ghost use Rattle.pdb_msf.specs.Msf.{Msf, container};
@@ -6,16 +6,16 @@ ghost use Rattle.pdb_container.specs.Identity.{identity};
 ghost use Rattle.pdb_container.specs.PdbFile.{records, records_of};
 ghost use Rattle.pdb_file_laws.specs.SameStreams.{HoldSame, IsLongEnough, IsWhole, SameStreams, ShareBlocks};
 
-/// What two containers say is the same where they hold the same streams, in files of one length; and in files of any
-/// length the build that they are of.
+/// Two containers with the same streams have the same records if their files have the same length. Their identity is
+/// the same for any lengths.
 #[tactic(auto, using(crate::proofs::SameStreamLemmas::held))]
 pub fn streams_say_all()
     ensures records { (a b : Msf) → HoldSame a b → records a ≡ records b }
     ensures identity { (a b : Msf) → SameStreams a b → identity a ≡ identity b }
 {}
 
-/// What lies in no stream of a file changes no answer: files of one length have the same records where their containers
-/// share the blocks of the streams, whatever the other bytes are.
+/// Bytes that are in no stream don't affect the records: files of the same length have the same records if their
+/// containers share the blocks of the streams, whatever the other bytes are.
 #[tactic(auto, using(crate::proofs::SameStreamLemmas::shared))]
 pub fn other_bytes_say_nothing()
     ensures streams { (a b : Msf) → ShareBlocks a b → HoldSame a b }
@@ -23,8 +23,8 @@ pub fn other_bytes_say_nothing()
         → ShareBlocks a b → records_of old ≡ records_of new }
 {}
 
-/// Bytes after a file say nothing, where it has all blocks of its streams and is long enough for the bounds by its
-/// length: with more bytes after it, and without them, it has the same records.
+/// Bytes after a file don't affect its records, if it has all blocks of its streams and is long enough for the bounds
+/// by its length: with and without more bytes after it, it has the same records.
 #[tactic(auto, using(crate::proofs::LongerFileLemmas::longer))]
 pub fn bytes_behind_say_nothing()
     ensures containers { (a b : Msf) → SameStreams a b → length a.file ≤ length b.file → IsLongEnough a

@@ -1,4 +1,4 @@
--- FPO data (FPO_DATA): how an x86 function without a frame pointer keeps its frame.
+-- FPO data (FPO_DATA): the frame layout of an x86 function without a frame pointer.
 use Rattle.std.specs.Prelude.{ℕ, ◌/◌, ◌%◌, ◌==◌, List, drop, if◌then◌else◌}
 use Rattle.pdb_records.specs.Readings.{Read}
 use Rattle.pdb_msf.specs.ItemLists.{entry_list}
@@ -16,7 +16,7 @@ frame_type number =
     NonFpo
 
 -- an entry: ulOffStart, cbProcSize and cdwLocals, four bytes each, then cdwParams with two, and two bytes of bits, from
--- the lowest up: cbProlog (8), cbRegs (3), fHasSEH (1), fUseBP (1), one that isn't used, and cbFrame (2)
+-- the lowest up: cbProlog (8), cbRegs (3), fHasSEH (1), fUseBP (1), an unused one, and cbFrame (2)
 abbrev pub fpo_data : List ℕ → FpoData
 fpo_data bytes = record {
   rva = number (drop 0 bytes);
@@ -29,6 +29,6 @@ fpo_data bytes = record {
   frame = frame_type (two_byte_number (drop 14 bytes) / 16384);
 }
 
--- the entries of a stream, 16 bytes each, up to one that the stream ends in
+-- the entries of a stream, 16 bytes each, up to an incomplete one
 abbrev pub fpo_data_list : List ℕ → Read FpoData
 fpo_data_list stream = entry_list fpo_data 16 stream

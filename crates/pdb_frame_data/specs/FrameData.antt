@@ -1,4 +1,4 @@
--- Frame data (FRAMEDATA): how a stretch of x86 code keeps its frame.
+-- Frame data (FRAMEDATA): the frame layout of a range of x86 code.
 use Rattle.std.specs.Prelude.{ℕ, ◌%◌, ◌==◌, List, drop, length, if◌then◌else◌}
 use Rattle.pdb_records.specs.Readings.{Read}
 use Rattle.pdb_msf.specs.ItemLists.{entry_list}
@@ -19,10 +19,10 @@ frame_data bytes = record {
   saved_register_size = two_byte_number (drop 26 bytes);
 }
 
--- where the entries of a stream begin: after four bytes, unless its length is a multiple of an entry's
+-- the part of a stream with the entries: after four bytes, unless the stream's length is a multiple of an entry's
 abbrev pub aligned : List ℕ → List ℕ
 aligned stream = if length stream % 32 == 0 then stream else drop 4 stream
 
--- the entries of a stream, 32 bytes each, up to one that the stream ends in
+-- the entries of a stream, 32 bytes each, up to an incomplete one
 abbrev pub frame_data_list : List ℕ → Read FrameData
 frame_data_list stream = entry_list frame_data 32 (aligned stream)

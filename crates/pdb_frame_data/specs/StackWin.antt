@@ -21,8 +21,8 @@ use Rattle.pdb_frame_data.specs.declared.omitted_frame_data.OmittedFrameData.{Om
 use Rattle.pdb_frame_data.specs.declared.omitted_frame_data.FrameDataError.{FrameDataError}
 use Rattle.pdb_frame_data.specs.declared.omitted_frame_data.FrameDataError.TheVariants.{BadProgram, Empty, LongProgram, NoProgram, TooLarge}
 
--- records: their text, the entries that have none, why frame data and FPO data end early, and how many bytes of
--- parameters code takes
+-- the records of a program: their text, the entries without a record, why frame data and FPO data end early, and the
+-- parameter sizes of code
 pub record Records : Type 0 where
   pub text : List ℕ
   pub left_out : List OmittedFrameData
@@ -30,35 +30,35 @@ pub record Records : Type 0 where
   pub fpo_fault : Option StreamError
   pub parameter_sizes : List (Segment ℕ)
 
--- the entries of a stream that was read, or none, with the stream's fault
+-- the entries of a stream; if it can't be read, none, with the stream's fault
 abbrev pub entries_of : {A : Type 0} → (List ℕ → Read A) → Result (List ℕ) StreamError → Read A
 entries_of entries (Ok bytes) = entries bytes
 entries_of entries (Err error) = nothing_read (Some error)
 
--- why code at this address and of this size has no record: there is none of it, or it reaches past 32 bits
+-- why code with this address and size has no record: it is empty, or reaches past 32 bits
 abbrev pub code_fault : ℕ → ℕ → Option FrameDataError
 code_fault rva size =
     if size == 0 then Some Empty else if nat_lt (2 ^ 32) (rva + size) then Some TooLarge else None
 
--- whether a byte isn't of a control character
+-- whether a byte is no control character
 abbrev pub is_printed : ℕ → Bool
 is_printed byte = nat_le 0x20 byte
 
--- bytes as a text of one line, if they are one
+-- bytes as a text of one line; an error if they have control characters or aren't UTF-8
 abbrev pub text_of : List ℕ → Result (List ℕ) FrameDataError
 text_of bytes = if list_all is_printed bytes && is_utf8 bytes then Ok bytes else Err BadProgram
 
--- in how many bytes a program string has to end, with its zero; many entries may name one string, so a long one would make
--- the records far larger than the file
+-- the most bytes of a program string, with its zero. Many entries may name one string, so a long one would make the
+-- records far larger than the file
 abbrev pub most_program : ℕ
 most_program = 4096
 
--- the program before a zero among the first bytes; without one it is longer than these, or isn't there
+-- the program before a zero among the first bytes; without a zero it is too long, or missing
 abbrev pub program_by : List ℕ → Option (List ℕ) → Result (List ℕ) FrameDataError
 program_by rest None = if nat_lt (length rest) most_program then Err NoProgram else Err LongProgram
 program_by rest (Some bytes) = text_of bytes
 
--- the program at the beginning of these bytes
+-- the program at the start of these bytes
 abbrev pub program_in : List ℕ → Result (List ℕ) FrameDataError
 program_in rest = program_by rest (text_in (take most_program rest))
 
@@ -67,44 +67,45 @@ abbrev pub unless_refused : Option FrameDataError → Result (List ℕ) FrameDat
 unless_refused None program = program
 unless_refused (Some why) program = Err why
 
--- the program of frame data: the text at its offset after the first twelve bytes of the strings, up to a zero
+-- the program of frame data: the zero-terminated text at its offset, which counts from after the first twelve bytes of
+-- the strings
 abbrev pub frame_program : List ℕ → FrameData → Result (List ℕ) FrameDataError
 frame_program strings entry =
     unless_refused (code_fault entry.rva entry.size) (program_in (drop (12 + entry.program) strings))
 
--- a text that a call answers, as bytes
+-- the text in a result, as bytes
 abbrev pub text_seen : Result (Bor (List ℕ)) FrameDataError → Result (List ℕ) FrameDataError
 text_seen (Ok text) = Ok text.now
 text_seen (Err why) = Err why
 
--- an entry is left out
+-- the records, with one more entry left out
 abbrev pub leave_out : ℕ → FrameDataError → Records → Records
 leave_out rva why r = record r { left_out = r.left_out ++ record { rva = rva; why = why } ∷ [] }
 
--- the text of a record is added, or else its entry is left out
+-- the records with the text of one more record; without a program its entry is left out
 abbrev pub add : ℕ → Result (List ℕ) FrameDataError → (List ℕ → List ℕ) → Records → Records
 add rva (Ok program) text r = record r { text = r.text ++ text program }
 add rva (Err why) text r = leave_out rva why r
 
--- the record of frame data is added
+-- the records with one more record of frame data
 abbrev pub add_frame_data : List ℕ → FrameData → Records → Records
 add_frame_data strings entry r = add entry.rva (frame_program strings entry) (frame_data_text entry) r
 
--- the record of FPO data is added; it has no program
+-- the records with one more record of FPO data, which has no program
 abbrev pub add_fpo : FpoData → Records → Records
 add_fpo entry r = add entry.rva (unless_refused (code_fault entry.rva entry.size) (Ok [])) (λ program. fpo_text entry) r
 
--- the records of frame data are added
+-- the records with those of frame data
 abbrev pub with_frame_data : List ℕ → List FrameData → Records → Records
 with_frame_data strings [] r = r
 with_frame_data strings (entry ∷ entries) r = with_frame_data strings entries (add_frame_data strings entry r)
 
--- the records of FPO data are added
+-- the records with those of FPO data
 abbrev pub with_fpo : List FpoData → Records → Records
 with_fpo [] r = r
 with_fpo (entry ∷ entries) r = with_fpo entries (add_fpo entry r)
 
--- before any record is added
+-- the empty records, before any record is added
 abbrev pub no_records : Read FrameData → Read FpoData → Records
 no_records frame_data fpo = record {
   text = [];

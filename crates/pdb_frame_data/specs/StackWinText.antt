@@ -11,17 +11,17 @@ use Rattle.pdb_frame_data.specs.declared.stack_win_text.FrameSizes.{FrameSizes}
 abbrev pub field : ℕ → List ℕ
 field number = codes " " ++ digits 16 false number
 
--- what a record begins with: the kind of the frame, the address and the size of the code
+-- the start of a record: the kind of the frame, the address and the size of the code
 unfoldable pub code_fields : ℕ → ℕ → ℕ → List ℕ
 code_fields frame rva size = codes "STACK WIN" ++ (field frame ++ (field rva ++ field size))
 
--- the sizes of a record: of the prologue, of the epilogue (0: it isn't known), of parameters, of saved registers, of
--- local variables, and the most that is pushed
+-- the sizes in a record: of the prologue, of the epilogue (0, since it isn't known), of parameters, of saved registers,
+-- of local variables, and the most that is pushed
 unfoldable pub size_fields : FrameSizes → List ℕ
 size_fields sizes = field sizes.prologue ++ (codes " 0" ++ (field sizes.parameters ++ (field sizes.saved_registers
     ++ (field sizes.locals ++ field sizes.max_stack))))
 
--- the sizes that frame data has
+-- the sizes in frame data
 abbrev pub frame_data_sizes : FrameData → FrameSizes
 frame_data_sizes entry = record {
   prologue = entry.prologue_size;
@@ -31,7 +31,7 @@ frame_data_sizes entry = record {
   max_stack = entry.max_stack_size;
 }
 
--- a program, which ends the line, after a 1 that says that there is one
+-- a 1 for "has a program", and the program, which ends the line
 abbrev pub program_field : List ℕ → List ℕ
 program_field program = codes " 1 " ++ (program ++ codes "\n")
 
@@ -40,8 +40,8 @@ abbrev pub frame_data_text : FrameData → List ℕ → List ℕ
 frame_data_text entry program =
     code_fields 4 entry.rva entry.size ++ (size_fields (frame_data_sizes entry) ++ program_field program)
 
--- the sizes that FPO data has: it counts parameters, registers and local variables in units of four bytes, and doesn't
--- say how much is pushed
+-- the sizes in FPO data. It counts parameters, registers and local variables in four-byte words, and doesn't have the
+-- size of pushes
 abbrev pub fpo_sizes : FpoData → FrameSizes
 fpo_sizes entry = record {
   prologue = entry.prologue_size;
@@ -58,7 +58,7 @@ frame_number Trap = 1
 frame_number Tss = 2
 frame_number NonFpo = 3
 
--- what ends a record without a program: a 0, and whether the base pointer is used as another register
+-- the end of a record without a program: a 0, and whether the base pointer is used as a general register
 abbrev pub without_program : Bool → List ℕ
 without_program true = codes " 0 1\n"
 without_program false = codes " 0 0\n"

@@ -1,4 +1,4 @@
-//! FPO data: how x86 code without frame pointers keeps its frame, as compilers wrote it before frame data.
+//! Reads FPO data: how x86 functions keep their frames, in the form before frame data.
 
 ghost use Rattle.std.specs.Prelude.{◌≡◌, length, IfOk};
 ghost use Rattle.pdb_frame_data.specs.FpoData.{fpo_data, fpo_data_list, frame_type};
@@ -14,44 +14,45 @@ const ENTRY: usize = 16;
 /// How a function keeps its frame (FPO_DATA).
 #[derive(Debug, Clone, Copy, PartialEq, Eq)]
 pub struct FpoData {
-    /// The address of its first byte, relative to the image base.
+    /// The address of the function's first byte, relative to the image base.
     pub rva: u32,
-    /// In bytes.
+    /// The size of the function in bytes.
     pub size: u32,
-    /// In units of four bytes.
+    /// The size of its local variables, in units of four bytes.
     pub locals: u32,
-    /// In units of four bytes.
+    /// The size of its parameters, in units of four bytes.
     pub parameters: u16,
-    /// In bytes.
+    /// The size of its prologue in bytes.
     pub prologue_size: u8,
-    /// How many registers it saves.
+    /// The number of registers that it saves.
     pub saved_registers: u8,
-    /// Whether it uses the base pointer as another register.
+    /// Whether it uses the base pointer as a general register.
     pub allocates_base_pointer: bool,
     pub frame: FrameType,
 }
 
-/// What kind of frame a function has.
+/// The kind of a function's frame.
 #[derive(Debug, Clone, Copy, PartialEq, Eq)]
 pub enum FrameType {
-    /// None with a frame pointer (FRAME_FPO).
+    /// A frame without a frame pointer (FRAME_FPO).
     Fpo,
-    /// That of a trap (FRAME_TRAP).
+    /// The frame of a trap (FRAME_TRAP).
     Trap,
-    /// That of a task (FRAME_TSS).
+    /// The frame of a task (FRAME_TSS).
     Tss,
-    /// One with a frame pointer (FRAME_NONFPO).
+    /// A frame with a frame pointer (FRAME_NONFPO).
     NonFpo,
 }
 
-/// The entries of a stream of FPO data. If the stream ends within an entry, those before it are answered, with the fault.
+/// Reads the entries of a stream of FPO data. If the last entry is cut off, those before it are returned with the
+/// fault.
 pub fn read_fpo_data(alloc: Global, stream: &[u8]) -> Result<Reading<FpoData>, AllocError>
     ensures answer { IfOk result (λ read. read ≡ fpo_data_list stream.now) }
 {
     read_items(alloc, &FpoEntries, stream)
 }
 
-/// Entries, one after the other.
+/// Reads entries in turn.
 struct FpoEntries;
 
 impl<'a> ItemReader<'a> for FpoEntries {
@@ -67,7 +68,7 @@ impl<'a> ItemReader<'a> for FpoEntries {
     }
 }
 
-// The FPO data that an entry's bytes are.
+// Decodes an entry.
 fn fpo_data(entry: &[u8]) -> FpoData
     requires { length entry.now ≡ 16 }
     ensures { result ≡ fpo_data entry.now }
@@ -85,7 +86,7 @@ fn fpo_data(entry: &[u8]) -> FpoData
     }
 }
 
-// The kind of frame by its number.
+// The kind of frame with this number.
 fn frame_type(number: u16) -> FrameType
     ensures { result ≡ frame_type number }
 {

@@ -1,4 +1,4 @@
-//! Frame data: how x86 code keeps its frame, with a program that finds the caller's.
+//! Reads frame data: how x86 code keeps its frame, with a program that finds the caller's.
 
 ghost use Rattle.std.specs.Prelude.{◌≡◌, length, IfOk};
 ghost use Rattle.pdb_frame_data.specs.FrameData.{aligned, frame_data, frame_data_list};
@@ -14,23 +14,23 @@ const ENTRY: usize = 32;
 /// The number of bytes before the entries, if there are any.
 const FRONT: usize = 4;
 
-/// How a stretch of code keeps its frame (FRAMEDATA). Sizes are in bytes.
+/// How a range of code keeps its frame (FRAMEDATA). Sizes are in bytes.
 #[derive(Debug, Clone, Copy, PartialEq, Eq)]
 pub struct FrameData {
-    /// The address of its first byte, relative to the image base.
+    /// The address of the code's first byte, relative to the image base.
     pub rva: u32,
     pub size: u32,
     pub local_size: u32,
     pub parameter_size: u32,
-    /// The most that is pushed at any time.
+    /// The maximum size of pushed data.
     pub max_stack_size: u32,
-    /// The offset of its program among the program strings.
+    /// The offset of its program in the program strings.
     pub program: u32,
     pub prologue_size: u16,
     pub saved_register_size: u16,
 }
 
-/// The entries of a stream of frame data. If the stream ends within an entry, those before it are answered, with the
+/// Reads the entries of a stream of frame data. If the last entry is cut off, those before it are returned with the
 /// fault.
 pub fn read_frame_data(alloc: Global, stream: &[u8]) -> Result<Reading<FrameData>, AllocError>
     ensures answer { IfOk result (λ read. read ≡ frame_data_list stream.now) }
@@ -48,7 +48,7 @@ fn aligned(stream: &[u8]) -> &[u8]
     bytes_from(stream, FRONT)
 }
 
-/// Entries, one after the other.
+/// Reads entries in turn.
 struct FrameDataEntries;
 
 impl<'a> ItemReader<'a> for FrameDataEntries {
@@ -64,7 +64,7 @@ impl<'a> ItemReader<'a> for FrameDataEntries {
     }
 }
 
-// The frame data that an entry's bytes are.
+// Decodes an entry.
 fn frame_data(entry: &[u8]) -> FrameData
     requires { length entry.now ≡ 32 }
     ensures { result ≡ frame_data entry.now }

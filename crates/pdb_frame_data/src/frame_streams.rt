@@ -1,4 +1,4 @@
-//! The streams of a PDB file that have frame data, FPO data, and program strings.
+//! Reads the streams of a PDB file that have frame data, FPO data, and program strings.
 
 ghost use Rattle.std.specs.Prelude.{◌≡◌, ◌≤◌, IfErr, IfOk};
 ghost use Rattle.pdb_frame_data.specs.FrameStreams.{frame_stream, program_strings};
@@ -17,12 +17,12 @@ const FPO: usize = 0;
 /// The position of frame data in the optional debug header.
 const FRAME_DATA: usize = 9;
 
-/// The bytes of the streams.
+/// The bytes of these streams.
 #[derive(Drop)]
 pub(crate) struct FrameStreams {
     pub(crate) frame_data: Result<Vec<u8>, StreamError>,
     pub(crate) fpo: Result<Vec<u8>, StreamError>,
-    /// Each program is at its offset after twelve bytes, and ends before a zero.
+    /// The program strings. A program starts at its offset plus twelve bytes, and ends before a zero.
     pub(crate) strings: Vec<u8>,
 }
 
@@ -53,8 +53,8 @@ impl FrameStreams {
     }
 }
 
-// The stream at a position of the optional debug header, by the stream of debug information. It has no bytes if the file
-// has no such stream.
+// Reads the stream at a position of the optional debug header, which is in the debug information stream. Empty if the
+// file has no such stream.
 #[tactic(auto, unfolding(crate::specs::FrameStreams::frame_stream))]
 fn read_optional<S: Source>(
     alloc: Global,
@@ -85,7 +85,7 @@ fn read_optional<S: Source>(
     }
 }
 
-// The stream of program strings. It has no bytes if the file has no such stream, or if the stream is broken.
+// Reads the stream of program strings. Empty if the file has no such stream, or if it can't be read.
 #[tactic(auto, unfolding(crate::specs::FrameStreams::program_strings))]
 fn read_strings<S: Source>(
     alloc: Global,

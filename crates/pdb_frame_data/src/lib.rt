@@ -1,8 +1,8 @@
-//! How x86 code keeps its frames, as a PDB file says it, and the records of a Breakpad symbol file that say the same.
+//! Reads how x86 code keeps its frames from a PDB file, and writes STACK WIN records of it for a Breakpad symbol file.
 //!
-//! A PDB file of an x86 program has frame data (FRAMEDATA) for each stretch of code, with a program that computes the
-//! caller's registers, or the older FPO data (FPO_DATA). What is read and written is a definition over the bytes of the
-//! file, in specs/StackWin.antt, whatever these are.
+//! A PDB file of an x86 program has frame data (FRAMEDATA) for each range of code, with a program that computes the
+//! caller's registers; or the older FPO data (FPO_DATA). The records are defined over the bytes of the file, in
+//! specs/StackWin.antt, for all bytes.
 #![tactic(auto)]
 
 mod fpo_data;

@@ -1,14 +1,14 @@
-//! Why an entry has no record.
+//! `OmittedFrameData`: entries that get no record, and why.
 
 use thiserror::Error;
 
-/// Why an entry of frame data or of FPO data has no record.
+/// Why an entry of frame data or FPO data gets no record.
 #[derive(Debug, Clone, Copy, PartialEq, Eq, Error)]
 pub enum FrameDataError {
     /// The entry covers no code.
     #[error("the frame data covers no code")]
     Empty,
-    /// The entry reaches past the last address of 32 bits.
+    /// The entry extends past the last 32-bit address.
     #[error("the frame data reaches past the end of the address space")]
     TooLarge,
     /// There is no program string at the offset that the entry names.
@@ -22,10 +22,10 @@ pub enum FrameDataError {
     BadProgram,
 }
 
-/// An entry that has no record.
+/// An entry that gets no record.
 #[derive(Debug, Clone, Copy, PartialEq, Eq)]
 pub struct OmittedFrameData {
-    /// The address of its first byte, relative to the image base.
+    /// The address of its code's first byte, relative to the image base.
     pub rva: u32,
     pub why: FrameDataError,
 }

@@ -8,8 +8,8 @@ use crate::frame_data::FrameData;
 use pdb_tables::Segment;
 use std::alloc::{AllocError, Global};
 
-/// The size of the parameters over the addresses of each entry: those of FPO data, and after them those of frame data,
-/// which count where both cover an address.
+/// The parameter sizes of all entries, by address: those of FPO data come first, and then those of frame data, which
+/// win if both cover an address.
 pub(crate) fn parameter_sizes(
     alloc: Global,
     fpo: &[FpoData],
@@ -24,7 +24,7 @@ pub(crate) fn parameter_sizes(
     Ok(sizes)
 }
 
-// Those of FPO data.
+// The parameter sizes of FPO data.
 fn fpo_sizes(alloc: Global, fpo: &[FpoData]) -> Result<Vec<Segment<u32>>, AllocError>
     ensures { IfOk result (λ sizes. sizes.items ≡ map fpo_segment fpo.now) }
 {
@@ -35,7 +35,7 @@ fn fpo_sizes(alloc: Global, fpo: &[FpoData]) -> Result<Vec<Segment<u32>>, AllocE
     Ok(sizes)
 }
 
-// The addresses of FPO data, and the size of its parameters in bytes.
+// The addresses of an entry of FPO data, and the size of its parameters in bytes.
 fn fpo_segment(entry: FpoData) -> Segment<u32>
     ensures { result ≡ fpo_segment entry }
 {
@@ -47,7 +47,7 @@ fn fpo_segment(entry: FpoData) -> Segment<u32>
     }
 }
 
-// The addresses of frame data, and the size of its parameters in bytes.
+// The addresses of an entry of frame data, and the size of its parameters in bytes.
 fn frame_data_segment(entry: FrameData) -> Segment<u32>
     ensures { result ≡ frame_data_segment entry }
 {

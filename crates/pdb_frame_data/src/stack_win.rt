@@ -1,4 +1,4 @@
-//! The STACK WIN records of a program for x86, by its PDB file's frame data and FPO data.
+//! Makes the STACK WIN records of a program for x86, from its PDB file's frame data and FPO data.
 
 ghost use Rattle.std.specs.Prelude.{◌≡◌, ◌≤◌, take, IfErr, IfOk, OnOk};
 ghost use Rattle.std.specs.List.{list_all};
@@ -20,24 +20,25 @@ use pdb_tables::Segment;
 use std::alloc::{AllocError, Global};
 use std::marker::Model;
 
-/// The bytes before the program strings.
+/// The number of bytes before the program strings.
 const STRINGS_FRONT: usize = 12;
 
-/// In how many bytes a program string has to end, with its zero.
+/// The maximum size of a program string in bytes, with its zero.
 const MOST_PROGRAM: usize = 4096;
 
 /// The STACK WIN records of a program, as text.
 #[derive(Drop)]
 pub struct StackWinRecords {
-    /// A line for each record.
+    /// One line for each record.
     pub text: String,
-    /// The entries that have no record, in their order.
+    /// The entries that get no record, in file order.
     pub left_out: Vec<OmittedFrameData>,
     /// Why the frame data ends early, if it does.
     pub frame_data_fault: Option<StreamError>,
     /// Why the FPO data ends early, if it does.
     pub fpo_fault: Option<StreamError>,
-    /// How many bytes of parameters code takes from the stack. Where several cover an address the last one counts.
+    /// How many bytes of parameters code takes from the stack. If several entries cover an address, the last one
+    /// counts.
     pub parameter_sizes: Vec<Segment<u32>>,
 }
 
@@ -56,8 +57,8 @@ impl Model for StackWinRecords {
     } };
 }
 
-/// The STACK WIN records of a PDB file of this length: those of its frame data, and after them those of its FPO data. Files
-/// of programs for other machines than x86 have neither. The errors are those of
+/// Reads the STACK WIN records of a PDB file of this length: those of its frame data, and then those of its FPO data.
+/// Files for other machines than x86 have neither. The errors are those of
 /// [`MsfLayout::read`](pdb_msf::MsfLayout::read).
 #[tactic(auto, unfolding(crate::specs::StackWin::stack_win))]
 pub fn read_stack_win<S: Source>(
@@ -79,7 +80,7 @@ pub fn read_stack_win<S: Source>(
     }
 }
 
-// The records by the streams that they are read from.
+// Makes the records from the streams with frame data, FPO data and program strings.
 fn records_by(alloc: Global, streams: &FrameStreams) -> Result<StackWinRecords, AllocError>
     ensures { IfOk result (λ records. records ≡ records_by (bytes_read streams.now.frame_data)
         (bytes_read streams.now.fpo) streams.now.strings.items) }
@@ -128,7 +129,7 @@ fn with_fpo(records: &mut StackWinRecords, entries: &[FpoData]) -> Result<(), Al
     Ok(())
 }
 
-// Adds the record of frame data, or leaves it out.
+// Adds the record of an entry of frame data, or lists the entry as one without a record.
 fn add_frame_data(
     records: &mut StackWinRecords,
     strings: &[u8],
@@ -142,7 +143,7 @@ fn add_frame_data(
     }
 }
 
-// Adds the record of FPO data, or leaves it out.
+// Adds the record of an entry of FPO data, or lists the entry as one without a record.
 fn add_fpo(records: &mut StackWinRecords, entry: FpoData) -> Result<(), AllocError>
     ensures { OnOk result (records.new ≡ add_fpo entry records.old) }
 {
@@ -152,7 +153,7 @@ fn add_fpo(records: &mut StackWinRecords, entry: FpoData) -> Result<(), AllocErr
     }
 }
 
-// Leaves an entry out.
+// Lists an entry as one without a record.
 fn leave_out(records: &mut StackWinRecords, rva: u32, why: FrameDataError) -> Result<(), AllocError>
     ensures { OnOk result (records.new ≡ leave_out rva why records.old) }
 {
@@ -160,7 +161,7 @@ fn leave_out(records: &mut StackWinRecords, rva: u32, why: FrameDataError) -> Re
     Ok(())
 }
 
-// Why code at this address and of this size has no record, if it has none.
+// Why code with this address and size gets no record, if it doesn't.
 fn code_fault(rva: u32, size: u32) -> Option<FrameDataError>
     ensures { result ≡ code_fault rva size }
 {
@@ -173,7 +174,7 @@ fn code_fault(rva: u32, size: u32) -> Option<FrameDataError>
     None
 }
 
-// The program of frame data, or why it has no record.
+// The program of an entry of frame data, or why the entry gets no record.
 fn frame_program(strings: &[u8], entry: FrameData) -> Result<&str, FrameDataError>
     ensures { text_seen result ≡ frame_program strings.now entry }
 {
@@ -183,7 +184,7 @@ fn frame_program(strings: &[u8], entry: FrameData) -> Result<&str, FrameDataErro
     program_in(bytes_from(strings, STRINGS_FRONT + entry.program as usize))
 }
 
-// The program that these bytes begin with.
+// The program at the start of these bytes.
 fn program_in(rest: &[u8]) -> Result<&str, FrameDataError>
     ensures { text_seen result ≡ program_in rest.now }
 {
@@ -194,7 +195,7 @@ fn program_in(rest: &[u8]) -> Result<&str, FrameDataError>
     }
 }
 
-// So many bytes, or all where there are fewer.
+// The first `count` bytes, or all if there are fewer.
 fn first_bytes(bytes: &[u8], count: usize) -> &[u8]
     ensures { result.now ≡ take count bytes.now }
 {
@@ -205,7 +206,7 @@ fn first_bytes(bytes: &[u8], count: usize) -> &[u8]
     first
 }
 
-// These bytes as a text of one line.
+// These bytes as text, which must be a single line.
 #[tactic(auto, using(crate::proofs::TextLemmas::by_utf8))]
 fn text_of(bytes: &[u8]) -> Result<&str, FrameDataError>
     ensures { text_seen result ≡ text_of bytes.now }

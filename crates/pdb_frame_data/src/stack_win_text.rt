@@ -1,4 +1,4 @@
-//! The text of STACK WIN records.
+//! Writes the text of STACK WIN records.
 
 ghost use Rattle.std.specs.Prelude.{◌≡◌, ◌++◌, OnOk, string_bytes};
 ghost use Rattle.pdb_frame_data.specs.StackWinText.{code_fields, fpo_sizes, fpo_text, frame_data_sizes, frame_data_text};
@@ -8,7 +8,7 @@ use crate::fpo_data::{FpoData, FrameType};
 use crate::frame_data::FrameData;
 use std::alloc::AllocError;
 
-/// The sizes that a record has, in bytes.
+/// The sizes in a record, in bytes.
 #[derive(Clone, Copy)]
 pub(crate) struct FrameSizes {
     pub(crate) prologue: u32,
@@ -18,7 +18,7 @@ pub(crate) struct FrameSizes {
     pub(crate) max_stack: u32,
 }
 
-/// The kind of frame data among the kinds of frames.
+/// The number that STACK WIN records have for frame data.
 const FRAME_DATA: u8 = 4;
 
 /// Appends the record of frame data, with its program.
@@ -52,7 +52,7 @@ pub(crate) fn push_fpo(text: &mut String, entry: FpoData) -> Result<(), AllocErr
     text.push_str(without_program(entry.allocates_base_pointer))
 }
 
-// What stands in the place of a program.
+// The text in place of a program, in a record of FPO data.
 fn without_program(allocates_base_pointer: bool) -> &'static str
     ensures { result.now ≡ without_program allocates_base_pointer }
 {
@@ -63,7 +63,7 @@ fn without_program(allocates_base_pointer: bool) -> &'static str
     }
 }
 
-// Appends what a record begins with: the kind of the frame, the address and the size of the code.
+// Appends the beginning of a record: the kind of the frame, the address and the size of the code.
 #[tactic(auto, unfolding(crate::specs::StackWinText::code_fields))]
 fn push_code(text: &mut String, frame: u8, rva: u32, size: u32) -> Result<(), AllocError>
     ensures { OnOk result (string_bytes text.new ≡ string_bytes text.old ++ code_fields frame rva size) }
@@ -87,7 +87,7 @@ fn push_sizes(text: &mut String, sizes: FrameSizes) -> Result<(), AllocError>
     write!(text, " {saved_registers:x} {locals:x} {max_stack:x}")
 }
 
-// The sizes that frame data has.
+// The sizes of an entry of frame data.
 fn frame_data_sizes(entry: FrameData) -> FrameSizes
     ensures { result ≡ frame_data_sizes entry }
 {
@@ -100,7 +100,7 @@ fn frame_data_sizes(entry: FrameData) -> FrameSizes
     }
 }
 
-// The sizes that FPO data has.
+// The sizes of an entry of FPO data.
 fn fpo_sizes(entry: FpoData) -> FrameSizes
     ensures { result ≡ fpo_sizes entry }
 {

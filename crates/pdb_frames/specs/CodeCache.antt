@@ -1,11 +1,11 @@
--- What was found of modules' code so far.
+-- The cache of modules' code.
 use Rattle.std.specs.Ordering.{nat_cmp}
 use Rattle.pdb_tables.specs.OnceMap.{HoldsOfEach}
 use Rattle.pdb_frames.specs.CodeCaches.{ModuleRecords, HasProgram, IsKnownOf, function_cmp, AreRowsOf, procedure_cmp}
 use Rattle.pdb_frames.specs.CodeCaches.{AreRangesOf}
 use Rattle.pdb_frames.specs.declared.code_cache.CodeCache.{CodeCache}
 
--- what was found so far is what the records say
+-- the cached values are those of the records
 pub record IsCodeCache (records : ModuleRecords) (cache : CodeCache) : Type 0 where
   pub infos : HoldsOfEach nat_cmp (IsKnownOf records) cache.infos.cached.made
   pub entries : HoldsOfEach nat_cmp (HasProgram records) cache.lines.entries.cached.made

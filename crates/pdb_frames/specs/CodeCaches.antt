@@ -1,4 +1,4 @@
--- What is cached of modules' code, and that it is what the records say.
+-- The cached values of modules' code, and that they are those of the records.
 use Rattle.std.specs.Prelude.{◌≡◌, ℕ, List, [], Option, Some, Result, Ok, option_map}
 use Rattle.std.specs.Ordering.{nat_cmp, ordering_then}
 use Rattle.std.specs.declared.cmp.Ordering.{Ordering}
@@ -23,7 +23,7 @@ use Rattle.pdb_frames.specs.declared.code_keys.ProcedureKey.{ProcedureKey}
 abbrev pub ModuleRecords : Type 0
 ModuleRecords = ℕ → Option ModuleInfo
 
--- this is what is known of the code of the module at a module index
+-- this is the extended info of the module with this index
 abbrev pub IsKnownOf : ModuleRecords → ℕ → ExtendedModuleInfo → Type 0
 IsKnownOf records module_index known =
     option_map extended_info (records module_index) ≡ Some (Ok (extended_info_view known))
@@ -34,12 +34,12 @@ function_cmp a b =
     ordering_then (nat_cmp a.module_index b.module_index) (
     ordering_then (nat_cmp a.section b.section) (nat_cmp a.offset b.offset))
 
--- the line program of the module at a module index is this one
+-- this is the line program of the module with this index
 abbrev pub HasProgram : ModuleRecords → ℕ → Lines → Type 0
 HasProgram records module_index program =
     option_map (λ info. streamed info.line_program) (records module_index) ≡ Some (Ok program)
 
--- these rows give over each offset what the line program of the function's module gives for the function
+-- these rows give the same row for each offset as the function's line program
 abbrev pub AreRowsOf : ModuleRecords → FunctionKey → Read LineInfo → Type 0
 AreRowsOf records key rows =
     (program : Lines) → HasProgram records key.module_index program
@@ -51,17 +51,17 @@ procedure_cmp a b =
     ordering_then (nat_cmp a.module_index b.module_index) (
     ordering_then (nat_cmp a.symbol b.symbol) (nat_cmp a.end b.end))
 
--- the ranges of a procedure's code that came from inlined bodies, by the records of its module: refused for what is
--- known of the module's code, and then for the procedure's ranges
+-- the inline ranges of a procedure's code, by the records of its module; an error for faulty records of the module's
+-- code, or for faulty ranges
 abbrev pub procedure_ranges : ModuleInfo → ℕ → ℕ → Result (List InlineRange) Error
 procedure_ranges info symbol end =
     and_then (extended_info info) (λ known. procedure_inline_ranges known.inlinees info symbol end)
 
--- the inlined bodies over an offset of a procedure, the outermost first; refused as its ranges are
+-- the inlined bodies at an offset of a procedure, the outermost first; an error if its ranges have one
 abbrev pub procedure_stack : ModuleInfo → ℕ → ℕ → ℕ → Result (List InlineRange) Error
 procedure_stack info symbol end x = and_then (procedure_ranges info symbol end) (λ ranges. Ok (inline_stack ranges x))
 
--- the inlined bodies over an offset of a function: a global function has none
+-- the inlined bodies at an offset of a function; a global function has none
 abbrev pub function_stack : ModuleInfo → FunctionMatch → ℕ → Result (List InlineRange) Error
 function_stack info (found_global m f) x = Ok []
 function_stack info (found_procedure m p) x = procedure_stack info p.symbol_index.0 p.end_symbol_index.0 x

@@ -1,4 +1,4 @@
--- Where the code at an offset of a function comes from.
+-- The source locations of the code at an offset of a function.
 use Rattle.std.specs.Prelude.{ℕ, List, [], Option, Result, Ok}
 use Rattle.pdb_records.specs.LinePrograms.{Lines}
 use Rattle.pdb_records.specs.declared.ids.IdIndex.{IdIndex}
@@ -14,26 +14,25 @@ use Rattle.pdb_frames.specs.Lines.{function_row}
 use Rattle.pdb_frames.specs.ExtendedInfo.{extended_info}
 use Rattle.pdb_frames.specs.declared.code_locations.CodeLocation as code
 
--- where code comes from: the module's line program, which names the files, the line row over the code, and the inlined
--- bodies over it, the outermost first
+-- the location of code: the module's line program, which has the files, the line row at the code, and the inlined
+-- bodies there, the outermost first
 pub record CodeLocation : Type 0 where
   pub line_program : Lines
   pub row : Option LineInfo
   pub stack : List InlineRange
 
--- the same, as the code holds it
+-- the model of the code's `CodeLocation`
 abbrev pub code_location_view : code.CodeLocation → CodeLocation
 code_location_view o = record { line_program = o.line_program.now; row = o.row; stack = o.stack.items }
 
--- the ranges of a function's code that came from inlined bodies, of which those of these ids count: a global function
--- has no sites, and so no ranges
+-- the inline ranges of a function's code for these ids; a global function has no inline sites, and so no ranges
 abbrev pub function_ranges : List IdIndex → ModuleInfo → FunctionMatch → Result (List InlineRange) Error
 function_ranges inlinees info (found_global m f) = Ok []
 function_ranges inlinees info (found_procedure m p) =
     procedure_inline_ranges inlinees info p.symbol_index.0 p.end_symbol_index.0
 
--- where the code at an offset of a function comes from, by the records of the function's module: refused for what is
--- known of the module's code, then for the function's line rows, and then for its inline ranges
+-- the location of the code at an offset of a function, by the records of its module. An error for faulty records of the
+-- module's code, then for faulty line rows, and then for faulty inline ranges
 abbrev pub code_location : ModuleInfo → FunctionMatch → ℕ → Result CodeLocation Error
 code_location info found x =
     and_then (extended_info info) (λ known.

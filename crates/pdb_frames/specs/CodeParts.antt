@@ -53,24 +53,24 @@ unsuccessful_code (part.ExtendedInfo m) = ExtendedModuleInfoUnsuccessful
 unsuccessful_code (part.Lines m start) = ProcedureLinesUnsuccessful
 unsuccessful_code (part.InlineRanges m start) = ProcedureInlineRangesUnsuccessful
 
--- what a part answers that is met broken: that it failed before, where it did, else its own error
+-- the error for a broken part: that it failed before, if it did, otherwise its own error
 abbrev pub code_part_error : CodeParts → CodePart → Error → Error
 code_part_error failed p e = error_of_part code_part_cmp unsuccessful_code failed p e
 
--- there is an error in place of an answer
+-- whether a result is an error
 abbrev pub is_refused : {A E : Type 0} → Result A E → Bool
 is_refused (Ok answer) = false
 is_refused (Err e) = true
 
--- the part that is to blame where it is refused where a function's code comes from, once it is known what is known of
--- the module's code: the function's lines, else its inline ranges
+-- the part at fault if the location of a function's code is refused though the records of the module's code are
+-- readable: the function's lines, otherwise its inline ranges
 abbrev pub blame_after_info : ℕ → PdbInternalSectionOffset → Result Lines Error → CodePart
 blame_after_info m start (Ok program) =
     if is_refused (function_rows program start) then part.Lines m start else part.InlineRanges m start
 blame_after_info m start (Err e) = part.ExtendedInfo m
 
--- the part that is to blame where it is refused where a function's code comes from: what is known of the module's code,
--- then the function's lines, then its inline ranges
+-- the part at fault if the location of a function's code is refused: the records of the module's code, then the
+-- function's lines, then its inline ranges
 abbrev pub part_to_blame : ModuleInfo → FunctionMatch → CodePart
 part_to_blame info found =
     let program = and_then (extended_info info) (λ known. Ok known.line_program) in

@@ -1,4 +1,4 @@
--- What is known of a module's code, beside its procedures.
+-- The records of a module's code, apart from its procedures.
 use Rattle.std.specs.Prelude.{List, [], Result, Ok, fold}
 use Rattle.std.specs.BTreeSet.{insert_key}
 use Rattle.std.specs.Ordering.{nat_cmp}
@@ -12,12 +12,12 @@ use Rattle.pdb_errors.specs.declared.error.Error.{Error}
 use Rattle.pdb_frames.specs.Lines.{read_whole}
 use Rattle.pdb_frames.specs.declared.extended_info.ExtendedModuleInfo.{ExtendedModuleInfo}
 
--- a module's line program, and the ids of the functions whose bodies stand in its code
+-- a module's line program, and the ids of the functions that are inlined in its code
 pub record ExtendedInfo : Type 0 where
   pub line_program : Lines
   pub inlinees : List IdIndex
 
--- the same, as the code holds it
+-- the model of `ExtendedModuleInfo`
 abbrev pub extended_info_view : ExtendedModuleInfo → ExtendedInfo
 extended_info_view e = record { line_program = e.line_program.now; inlinees = e.inlinees.keys }
 
@@ -29,8 +29,7 @@ id_cmp a b = nat_cmp a.0 b.0
 abbrev pub inlinee_ids : List Inlinee → List IdIndex
 inlinee_ids inlinees = fold (λ ids inlinee. insert_key id_cmp ids inlinee.index) [] inlinees
 
--- what is known of a module's code: refused for a line program that could not be read, and then for the fault of the
--- list of inlinees
+-- the records of a module's code; an error for an unreadable line program, or for a fault of the list of inlinees
 abbrev pub extended_info : ModuleInfo → Result ExtendedInfo Error
 extended_info info =
     and_then (streamed info.line_program) (λ line_program.

@@ -9,24 +9,24 @@ use Rattle.pdb_records.specs.declared.strings.StringRef.{StringRef}
 use Rattle.pdb_frames.specs.SourceFiles.{FileName, file_name_of, as_file_name, borrowed_name}
 use Rattle.pdb_frames.specs.declared.lent_names.LentName.{LentName}
 
--- the texts of a string table by their references, where there is one
+-- the texts of a string table by their references, if there is one
 abbrev pub Strings : Type 0
 Strings = Option (List (StringRef × List ℕ))
 
--- the name under the reference of this number, where there is a string table and it has one
+-- the name under the reference with this number, if there is a string table and it has one
 abbrev pub name_under : Strings → ℕ → Option FileName
 name_under strings number =
     option_and_then (λ table. option_map as_file_name (string_at (record { 0 = number }) table)) strings
 
--- a table knows each of these names by the number of its reference
+-- a table has each of these names under the number of its reference
 abbrev pub KnowsNames : {Z : Type 0} → Strings → BTreeMap ℕ (CowStr Z) → Type 0
 KnowsNames strings names =
     (number : ℕ) → option_map file_name_of (get nat_cmp names number) ≡ name_under strings number
 
--- a name that is lent is the name under its number, which is borrowed
+-- a lent name is the name under its number, and borrowed
 abbrev pub IsLent : Strings → Option LentName → Type 0
 IsLent strings slot = IfSome slot (λ lent. name_under strings lent.number ≡ Some (borrowed_name lent.name.now))
 
--- so is each of these
+-- each lent name is the name under its number, and borrowed
 unfoldable pub AreLent : Strings → List (Option LentName) → Type 0
 AreLent strings slots = All (IsLent strings) slots

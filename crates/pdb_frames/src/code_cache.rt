@@ -1,4 +1,4 @@
-//! The cache of modules' code: where code at an offset of a function comes from, and what is to blame.
+//! `CodeCache`: finds which source line and inlined bodies code comes from, and caches what it reads of modules' code.
 
 ghost use Rattle.std.specs.Prelude.{◌≡◌, Some, Ok, IfOk};
 ghost use Rattle.pdb_errors.specs.Outcomes.{Gives, and_then};
@@ -21,10 +21,10 @@ use pdb_inline::InlineRange;
 use pdb_records::{LineInfo, LineProgram, ModuleInfo, PdbInternalSectionOffset};
 use std::alloc::{AllocError, Global};
 
-/// What was found of modules' code so far. It grows, and is asked before the records are read again.
+/// What was read of modules' code so far. It is searched before the records are read.
 ///
-/// It answers in three steps where code comes from: the line program of its module, the line row over it,
-/// and the inlined bodies over it.
+/// The source of code is found in three steps: the line program of its module, the line row that covers it, and the
+/// inlined bodies that cover it.
 pub struct CodeCache<'a> {
     pub(crate) alloc: Global,
     pub(crate) infos: ExtendedInfos<'a>,
@@ -44,7 +44,7 @@ impl Drop for CodeCache<'_> {
 }
 
 impl<'a> CodeCache<'a> {
-    /// Nothing yet. It takes no memory.
+    /// An empty cache. It takes no memory.
     pub fn new(alloc: Global) -> Self
         ensures { (records : ModuleRecords) → IsCodeCache records result }
     {
@@ -56,12 +56,12 @@ impl<'a> CodeCache<'a> {
         }
     }
 
-    /// Where the code at an offset of a function comes from, by the records of the function's module.
+    /// The source of the code at an offset of a function, by the records of the function's module.
     ///
     /// # Errors
     ///
-    /// [`Error::PdbError`](pdb_errors::Error::PdbError) for what is known of the module's code, then for the
-    /// function's line rows, and then for its inline ranges.
+    /// [`Error::PdbError`](pdb_errors::Error::PdbError) if one of these is broken, in this order: the module's extended
+    /// info, the function's line rows, its inline ranges.
     #[tactic(auto, using(crate::proofs::OriginLemmas::origin_by_stack))]
     pub fn code_location(
         &mut self,
@@ -86,11 +86,11 @@ impl<'a> CodeCache<'a> {
         })
     }
 
-    /// The part of the records that is to blame where it is refused where the code of a function comes from, by
-    /// the records of the function's module: what is known of the module's code, then the function's lines, then
-    /// its inline ranges. What was found is asked, so nothing is read again.
+    /// The part of the records that is broken, if the source of a function's code can't be found: the module's extended
+    /// info, the function's lines, or its inline ranges, checked in this order. The cache is searched first, so nothing
+    /// is read again.
     ///
-    /// Answers `AllocError` where memory runs out.
+    /// `AllocError` if memory runs out.
     pub fn part_to_blame(
         &mut self,
         module_info: &'a ModuleInfo,
@@ -113,8 +113,7 @@ impl<'a> CodeCache<'a> {
         }
     }
 
-    // The same, once the line program of the module's code is known: then it is the function's lines, or else its
-    // inline ranges.
+    // The broken part, if the module's extended info isn't it: the function's lines, or else its inline ranges.
     fn blame_after_info(
         &mut self,
         module_index: usize,
@@ -136,7 +135,7 @@ impl<'a> CodeCache<'a> {
         }
     }
 
-    // The line program of the module at a module index, once all is known of its code that can be.
+    // The line program of the module at a module index, whose extended info is read and cached.
     fn line_program(
         &mut self,
         module_index: usize,
@@ -152,8 +151,8 @@ impl<'a> CodeCache<'a> {
         self.infos.line_program(module_index, module_info)
     }
 
-    // The line row over an offset in the function that starts at a section offset, by the line program of the
-    // module at a module index.
+    // The line row at an offset of the function that starts at a section offset, by the line program of the module at a
+    // module index.
     fn row(
         &mut self,
         module_index: usize,
@@ -170,8 +169,8 @@ impl<'a> CodeCache<'a> {
         self.lines.row(module_index, line_program, start, offset)
     }
 
-    // The inlined bodies over an offset of a function, the outermost first, by the records of its module. A
-    // global function has none.
+    // The inlined bodies at an offset of a function, the outermost first, by the records of its module. A global
+    // function has none.
     fn stack(
         &mut self,
         module_info: &ModuleInfo,

@@ -5,7 +5,7 @@ ghost use Rattle.std.specs.Prelude.{◌≡◌};
 use pdb_functions::ProcedureSymbolFunction;
 use pdb_records::PdbInternalSectionOffset;
 
-// A function of a module: the module index, and where the function starts.
+// The key of a function of a module: the module index, and the section offset of its start.
 #[derive(Clone, Copy, PartialEq, Eq, PartialOrd, Ord)]
 pub(crate) struct FunctionKey {
     pub(crate) module_index: usize,
@@ -13,7 +13,7 @@ pub(crate) struct FunctionKey {
     pub(crate) offset: u32,
 }
 
-// A procedure of a module: the module index, and those of the symbols that open and close it.
+// The key of a procedure of a module: the module index, and the positions of the symbols that open and close it.
 #[derive(Clone, Copy, PartialEq, Eq, PartialOrd, Ord)]
 pub struct ProcedureKey {
     pub(crate) module_index: usize,

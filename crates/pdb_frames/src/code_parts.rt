@@ -5,11 +5,11 @@ ghost use Rattle.pdb_frames.specs.CodeParts.{unsuccessful_code};
 use pdb_errors::{BrokenPart, Error, PartSet};
 use pdb_records::PdbInternalSectionOffset;
 
-/// A part of the records of code that may be broken by itself: by module index, and by the
-/// start of its function where it is a function's.
+/// A part of the records of code that may be broken by itself, by its module index and, for a function's part, by the
+/// start of the function.
 #[derive(Clone, Copy, PartialEq, Eq, PartialOrd, Ord)]
 pub enum CodePart {
-    /// What is known of a module's code: its line program and its list of inlinees.
+    /// A module's extended info: its line program and its list of inlinees.
     ExtendedInfo(usize),
     /// The lines of a function.
     Lines(usize, PdbInternalSectionOffset),
@@ -17,7 +17,7 @@ pub enum CodePart {
     InlineRanges(usize, PdbInternalSectionOffset),
 }
 
-/// The parts of the records of code that were met broken.
+/// The parts of the records of code that were found broken.
 pub type FailedCodeParts = PartSet<CodePart>;
 
 impl BrokenPart for CodePart {

@@ -1,4 +1,4 @@
-//! Copies of names that may be unknown, of functions and of files.
+//! Copies of optional names of functions and files.
 
 ghost use Rattle.std.specs.Prelude.{◌≡◌, option_map, string_bytes, IfOk};
 ghost use Rattle.pdb_frames.specs.SourceFiles.{file_name_of};
@@ -6,7 +6,7 @@ ghost use Rattle.pdb_frames.specs.SourceFiles.{file_name_of};
 use std::alloc::AllocError;
 use std::borrow::CowStr;
 
-/// A copy of a name, where there is one.
+/// A copy of a name, if there is one.
 pub fn copy_of_name(name: &Option<String>) -> Result<Option<String>, AllocError>
     ensures { IfOk result (λ copy. option_map string_bytes copy ≡ option_map string_bytes name.now) }
 {
@@ -16,7 +16,7 @@ pub fn copy_of_name(name: &Option<String>) -> Result<Option<String>, AllocError>
     }
 }
 
-// A file name once more: borrowed again where it is borrowed, and else a copy of the copy.
+// A copy of a file name: borrowed if the original is borrowed, otherwise allocated.
 pub(crate) fn again<'a>(name: &CowStr<'a>) -> Result<CowStr<'a>, AllocError>
     ensures { IfOk result (λ again. file_name_of again ≡ file_name_of name.now) }
 {
@@ -26,7 +26,7 @@ pub(crate) fn again<'a>(name: &CowStr<'a>) -> Result<CowStr<'a>, AllocError>
     }
 }
 
-// The name of a file once more, where there is one.
+// A copy of a file's name, if there is one.
 pub(crate) fn copy_of_file<'a>(file: &Option<CowStr<'a>>) -> Result<Option<CowStr<'a>>, AllocError>
     ensures { IfOk result (λ copy. option_map file_name_of copy ≡ option_map file_name_of file.now) }
 {

@@ -10,12 +10,12 @@ use pdb_records::{IdIndex, Inlinee, LineProgram, ModuleInfo};
 use std::alloc::{AllocError, Global};
 use std::collections::BTreeSet;
 
-/// What is known of a module's code, beside its procedures.
+/// A module's line program, and the functions that are inlined in its code.
 #[derive(Drop)]
 pub struct ExtendedModuleInfo<'a> {
     /// The source lines of the code.
     pub line_program: &'a LineProgram,
-    /// The functions whose bodies stand in the code.
+    /// The ids of the functions that are inlined in the code.
     pub inlinees: BTreeSet<IdIndex>,
 }
 
@@ -27,7 +27,7 @@ fn add_id(ids: &mut BTreeSet<IdIndex>, id: IdIndex) -> Result<(), AllocError>
     Ok(())
 }
 
-// The ids of functions whose bodies stand in a module's code, as a set.
+// The ids of the functions that are inlined in a module's code, as a set.
 fn inlinee_ids(alloc: Global, inlinees: &[Inlinee]) -> Result<BTreeSet<IdIndex>, AllocError>
     ensures { IfOk result (λ ids. ids.keys ≡ inlinee_ids inlinees.now) }
 {
@@ -38,12 +38,11 @@ fn inlinee_ids(alloc: Global, inlinees: &[Inlinee]) -> Result<BTreeSet<IdIndex>,
     Ok(ids)
 }
 
-/// What is known of a module's code.
+/// Computes the extended info of a module.
 ///
 /// # Errors
 ///
-/// [`Error::PdbError`] for a line program that could not be read, and then for the fault of the list of
-/// inlinees.
+/// [`Error::PdbError`] if the line program can't be read, or else if the list of inlinees ends early.
 pub fn compute_extended_module_info(
     alloc: Global,
     module_info: &ModuleInfo,

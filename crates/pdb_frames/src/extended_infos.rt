@@ -18,7 +18,7 @@ use pdb_records::{LineProgram, ModuleInfo};
 use pdb_tables::{Once, OnceMap};
 use std::alloc::Global;
 
-// It is made once for each module index.
+// An extended info is made once for each module index.
 impl Once<usize> for ExtendedModuleInfo<'_> {
     ghost Source = { ModuleRecords };
 
@@ -27,7 +27,7 @@ impl Once<usize> for ExtendedModuleInfo<'_> {
     ghost antisymmetric = { nat_cmp-IsAntisymmetric };
 }
 
-// What is known of modules' code, beside their procedures, by module index. It is read once.
+// The extended infos of modules, by module index. Each is read once.
 #[derive(Drop)]
 pub struct ExtendedInfos<'a> {
     pub(crate) alloc: Global,
@@ -35,7 +35,7 @@ pub struct ExtendedInfos<'a> {
 }
 
 impl<'a> ExtendedInfos<'a> {
-    // Nothing yet. It takes no memory.
+    // An empty cache. It takes no memory.
     pub fn new(alloc: Global) -> Self
         ensures { (records : ModuleRecords) → HoldsOfEach nat_cmp (IsKnownOf records) result.cached.made }
     {
@@ -45,8 +45,8 @@ impl<'a> ExtendedInfos<'a> {
         }
     }
 
-    // The line program of the module at a module index, once all is known of its code that can be. Refused for a
-    // line program that could not be read, and then for the fault of the list of inlinees.
+    // The line program of the module at a module index, whose extended info is read and cached. Refused if the line
+    // program can't be read, or else if the list of inlinees ends early.
     pub fn line_program(
         &mut self,
         module_index: usize,
@@ -68,8 +68,8 @@ impl<'a> ExtendedInfos<'a> {
         Ok(line_program)
     }
 
-    // The ranges of a procedure's code that came from inlined bodies, by depth and start. Refused as the line program
-    // is, and then for the fault of the module's symbols.
+    // The inline ranges of a procedure, sorted by depth and start. Refused for the same reasons as the line program, or
+    // else if the module's symbols end early.
     pub fn inline_ranges(
         &self,
         module_index: usize,

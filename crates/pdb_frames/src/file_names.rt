@@ -1,4 +1,4 @@
-//! The names of source files, each found by its reference in a table that is made once.
+//! `FileNames`: a table of the names of source files by their references.
 
 ghost use Rattle.std.specs.Prelude.{◌≡◌, ◌==◌, ℕ, Some, None, option_map, IfOk, OnOk, if◌then◌else◌};
 ghost use Rattle.std.specs.BTreeMap.{get};
@@ -17,7 +17,7 @@ use std::borrow::CowStr;
 use std::collections::BTreeMap;
 use std::marker::Model;
 
-// The names of a table, each by the number of its reference.
+// The strings of a table, by the numbers of their references.
 fn names_of(alloc: Global, table: &StringTable) -> Result<BTreeMap<u32, CowStr<'_>>, AllocError>
     ensures { IfOk result (λ names. KnowsNames (Some table.now) names) }
 {
@@ -28,17 +28,17 @@ fn names_of(alloc: Global, table: &StringTable) -> Result<BTreeMap<u32, CowStr<'
     Ok(names)
 }
 
-/// The names of source files, each found by its reference in a table that is made once.
+/// The names of source files, by their references, in a table that is made once.
 ///
-/// It is made in time n log n for n entries and linear in their bytes, and a name is found in time log n, and mostly
-/// at once. A name in UTF-8 is borrowed from the records.
+/// Making the table takes O(n log n) time for n entries, plus linear time for their bytes. Finding a name takes O(log
+/// n), and mostly O(1). A name in UTF-8 is borrowed from the records.
 pub struct FileNames<'a> {
     strings: Option<&'a StringTable>,
     names: BTreeMap<u32, CowStr<'a>>,
     lent: LentNames<'a>,
 }
 
-// Clauses see it as the string table, where there is one.
+// Contracts see the table as the string table, if there is one.
 impl<'a> Model for FileNames<'a> {
     ghost use Rattle.std.specs.Prelude.{List, Option, ℕ};
     ghost use Rattle.std.specs.Option.{option_copied};
@@ -66,7 +66,7 @@ impl Drop for FileNames<'_> {
 }
 
 impl<'a> FileNames<'a> {
-    /// A table of all texts of the records, where there is a string table. Answers `AllocError` where memory runs out.
+    /// Makes a table of all strings; empty if there is no string table. `AllocError` if memory runs out.
     pub fn new(alloc: Global, strings: Option<&'a StringTable>) -> Result<Self, AllocError>
         ensures { IfOk result (λ names. names ≡ option_copied strings.entry) }
     {
@@ -86,9 +86,8 @@ impl<'a> FileNames<'a> {
         })
     }
 
-    /// The name of a file of a module. A name in UTF-8 is borrowed from the records. It is absent where there is no
-    /// string table, where the module has no such file, or where the table has no such string. Answers `AllocError`
-    /// where memory runs out.
+    /// The name of a file of a module. A name in UTF-8 is borrowed from the records. `None` if there is no string
+    /// table, if the module has no such file, or if the table has no such string. `AllocError` if memory runs out.
     pub fn name(
         &self,
         line_program: &LineProgram,

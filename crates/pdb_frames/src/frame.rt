@@ -1,4 +1,4 @@
-//! Frames: the function, file and line of what was called or inlined at an address, and copies of them.
+//! `Frame` and `FunctionFrames`: the functions, files and lines at an address, and copies of them.
 
 ghost use Rattle.std.specs.Prelude.{◌≡◌, IfOk};
 
@@ -7,14 +7,13 @@ use std::alloc::{AllocError, Global};
 use std::borrow::CowStr;
 use std::marker::Model;
 
-/// A function in whose code an address lies: the one that was called, or one whose body was inlined there.
+/// A function at an address: the one that was called, or one that was inlined there.
 #[derive(Drop)]
 pub struct Frame<'a> {
-    /// The function's name, if one is known. That of a procedure is its signature, as the formatter's flags
-    /// want it. That of a public symbol may be decorated.
+    /// The function's name, if it is known. That of a procedure is its signature, according to the formatter's flags.
+    /// That of a public symbol may be decorated.
     pub function: Option<String>,
-    /// The name of the source file that the code comes from, if it is known. It is borrowed from the records where it
-    /// is in UTF-8 there.
+    /// The name of the source file of the code, if it is known. It is borrowed from the records if it is UTF-8 there.
     pub file: Option<CowStr<'a>>,
     /// The line in that file, if it is known.
     pub line: Option<u32>,
@@ -37,11 +36,11 @@ impl<'a> Model for Frame<'a> {
 /// A function's addresses, and its frames at an address in its code.
 #[derive(Drop)]
 pub struct FunctionFrames<'a> {
-    /// Where the function starts, relative to where the program is loaded.
+    /// The start of the function, relative to where the program is loaded.
     pub start_rva: u32,
-    /// Where it ends: the address of the first byte after it, if it is known and fits 32 bits.
+    /// The address just after the function, if it is known and fits 32 bits.
     pub end_rva: Option<u32>,
-    /// The frames from inside to outside: the innermost inlined body first, and the function itself last.
+    /// The frames: the innermost inlined body first, and the containing function last.
     pub frames: Vec<Frame<'a>>,
 }
 
@@ -65,7 +64,7 @@ fn copies_of<'a>(alloc: Global, frames: &[Frame<'a>]) -> Result<Vec<Frame<'a>>, 
 }
 
 impl<'a> Frame<'a> {
-    /// An equal frame.
+    /// A copy of the frame.
     pub fn clone(&self) -> Result<Self, AllocError>
         ensures { IfOk result (λ f. f ≡ self.now) }
     {
@@ -78,7 +77,7 @@ impl<'a> Frame<'a> {
 }
 
 impl<'a> FunctionFrames<'a> {
-    /// An equal list of frames, with the same addresses.
+    /// A copy of the frames, with the same addresses.
     pub fn clone(&self) -> Result<Self, AllocError>
         ensures { IfOk result (λ f. f ≡ self.now) }
     {

@@ -1,4 +1,4 @@
-//! The cache of functions' line rows: the line row over an offset in a function.
+//! `FunctionLines`: a cache of functions' line rows, in which the row at an offset is found.
 
 ghost use Rattle.std.specs.Ordering.{nat_cmp};
 ghost use Rattle.pdb_errors.specs.Outcomes.{Gives};
@@ -15,7 +15,7 @@ use pdb_records::{LineInfo, LineProgram, PdbInternalSectionOffset};
 use pdb_tables::{Once, OnceMap};
 use std::alloc::Global;
 
-// They are made once for each function.
+// The rows of a function are made once.
 impl Once<FunctionKey> for FunctionRows {
     ghost Source = { ModuleRecords };
 
@@ -24,8 +24,7 @@ impl Once<FunctionKey> for FunctionRows {
     ghost antisymmetric = { function_cmp-IsAntisymmetric };
 }
 
-// The line rows of functions, by module index and where they start. The rows of a function are
-// looked up and sorted once.
+// The line rows of functions, by module index and start. The rows of a function are found and sorted once.
 #[derive(Drop)]
 pub struct FunctionLines<'a> {
     pub(crate) alloc: Global,
@@ -34,7 +33,7 @@ pub struct FunctionLines<'a> {
 }
 
 impl<'a> FunctionLines<'a> {
-    // Nothing yet. It takes no memory.
+    // An empty cache. It takes no memory.
     pub fn new(alloc: Global) -> Self
         ensures entries { (records : ModuleRecords)
             → HoldsOfEach nat_cmp (HasProgram records) result.entries.cached.made }
@@ -47,8 +46,8 @@ impl<'a> FunctionLines<'a> {
         }
     }
 
-    // The line row over an offset in the function that starts at a section offset, by the line program of the
-    // module at a module index. Refused for the fault of the function's rows.
+    // The line row at an offset of the function that starts at a section offset, by the line program of the module at a
+    // module index. Refused if the function's rows end early.
     pub fn row(
         &mut self,
         module_index: usize,

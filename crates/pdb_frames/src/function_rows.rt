@@ -1,4 +1,4 @@
-//! The line rows of a function by offset, each offset once, found by a binary search.
+//! `FunctionRows`: the line rows of a function sorted by offset, for a binary search.
 
 ghost use Rattle.std.specs.Prelude.{◌≡◌, ◌+◌, ◌≤◌, ℕ, length, IfOk};
 ghost use Rattle.std.specs.Option.{option_copied};
@@ -15,11 +15,11 @@ use pdb_tables::{Keyed, Probes, first_of_each_key, neighbours_of};
 use std::alloc::{AllocError, Global};
 use std::marker::Model;
 
-// A row, which stands in its list by its offset.
+// A row, sorted by its offset.
 #[derive(Clone, Copy, Drop)]
 struct Row(LineInfo);
 
-// Clauses see it as what the records have.
+// Contracts see it as the row in the records.
 impl Model for Row {
     ghost use Rattle.pdb_records.specs.declared.lines.LineInfo.{LineInfo};
 
@@ -40,7 +40,7 @@ impl Keyed for Row {
     }
 }
 
-// The rows in the order in which they are read.
+// The rows, in file order.
 fn listed(alloc: Global, rows: &[LineInfo]) -> Result<Vec<Row>, AllocError>
     ensures { IfOk result (λ v. v.items ≡ rows.now) }
 {
@@ -51,7 +51,7 @@ fn listed(alloc: Global, rows: &[LineInfo]) -> Result<Vec<Row>, AllocError>
     Ok(all)
 }
 
-// The rows by offset, of each offset the first that is read.
+// The rows sorted by offset. Of several rows at the same offset, the first one in the file is kept.
 #[tactic(auto, using(crate::proofs::RowLemmas::firsts_ascend, crate::proofs::RowLemmas::row_over_firsts))]
 fn first_of_each_offset(alloc: Global, rows: &[LineInfo]) -> Result<Vec<Row>, AllocError>
     ensures ascend { IfOk result (λ v. OffsetsAscend v.items) }
@@ -62,14 +62,14 @@ fn first_of_each_offset(alloc: Global, rows: &[LineInfo]) -> Result<Vec<Row>, Al
     Ok(firsts)
 }
 
-// The line rows of a function by offset, each offset once; of equal offsets the first that was read.
+// The line rows of a function, sorted by offset. Of several rows at the same offset, the first one in the file is kept.
 #[derive(Drop)]
 pub(crate) struct FunctionRows {
     rows: Vec<Row>,
     fault: Option<StreamError>,
 }
 
-// Clauses see the rows as a list that was read.
+// Contracts see the rows as a reading.
 impl Model for FunctionRows {
     ghost use Rattle.pdb_records.specs.Readings.{Read};
     ghost use Rattle.pdb_records.specs.declared.lines.LineInfo.{LineInfo};
@@ -83,8 +83,7 @@ impl Model for FunctionRows {
 }
 
 impl FunctionRows {
-    // The rows that a line program has for a function, if it has any. Where they have a fault, no row is
-    // counted.
+    // The rows that a line program has for a function, if it has any. If they end early, none are kept.
     pub(crate) fn new(alloc: Global, read: Option<&Reading<LineInfo>>) -> Result<Self, AllocError>
         ensures { IfOk result (λ counted. (program : Lines) (start : PdbInternalSectionOffset)
             → lines_at start program.entries ≡ option_copied read.entry
@@ -108,7 +107,7 @@ impl FunctionRows {
         })
     }
 
-    // The last row at or below an offset. Each row that is looked at counts.
+    // The last row at or below an offset. `probes` counts the rows that are compared.
     #[tactic(auto, using(crate::proofs::RowLemmas::row_is_last))]
     fn search(&self, offset: u32, probes: &mut Probes) -> Option<LineInfo>
         ensures answer { result ≡ row_over self.now.items offset }
@@ -118,8 +117,7 @@ impl FunctionRows {
         Some(row.0)
     }
 
-    // The row over an offset: the last at or below it. It is found by a binary search. Refused for the fault of the
-    // rows.
+    // The row at an offset: the last one at or below it. Refused if the rows end early.
     pub(crate) fn row(&self, offset: u32) -> Result<Option<LineInfo>>
         ensures { result ≡ row_in self.now offset }
     {

@@ -1,4 +1,4 @@
-//! Names of files that the records lend, each found at once at the slot of its reference.
+//! `LentNames`: a hash table of file names that are borrowed from the records.
 
 ghost use Rattle.std.specs.Prelude.{◌≡◌, Option, List, Some, option_map, IfOk, IfSome};
 ghost use Rattle.std.specs.BTreeMap.{get};
@@ -11,26 +11,26 @@ use std::alloc::{AllocError, Global};
 use std::borrow::CowStr;
 use std::collections::BTreeMap;
 
-// A name that the records lend, and the number of its reference.
+// A name that is borrowed from the records, and the number of its reference.
 #[derive(Clone, Copy)]
 pub(crate) struct LentName<'a> {
     pub(crate) number: u32,
     pub(crate) name: &'a str,
 }
 
-// Names that the records lend, to be found at once. References share slots, and a slot has the name of one of
-// them.
+// A table of borrowed names with one slot lookup for each search. References may share a slot, which then has the name
+// of one of them.
 #[derive(Drop)]
 pub(crate) struct LentNames<'a> {
     pub(crate) slots: Vec<Option<LentName<'a>>>,
 }
 
-// The slot of a reference's number among so many, which are a power of two.
+// The slot of a reference's number. The number of slots is a power of two.
 fn slot_of(number: u32, slots: usize) -> usize {
     number as usize & slots.wrapping_sub(1)
 }
 
-// The name of this number, if the records lend it.
+// The name with this number, if it is borrowed from the records.
 fn lent<'a>(names: &BTreeMap<u32, CowStr<'a>>, number: u32) -> Option<&'a str>
     ensures { IfSome result (λ name. option_map file_name_of (get nat_cmp names.now number)
         ≡ Some (borrowed_name name.now)) }
@@ -41,7 +41,7 @@ fn lent<'a>(names: &BTreeMap<u32, CowStr<'a>>, number: u32) -> Option<&'a str>
     }
 }
 
-// So many slots without a name.
+// `count` empty slots.
 fn no_names<'a>(alloc: Global, count: usize) -> Result<Vec<Option<LentName<'a>>>, AllocError>
     ensures { IfOk result (λ slots. (strings : Strings) → AreLent strings slots.items) }
 {
@@ -53,7 +53,7 @@ fn no_names<'a>(alloc: Global, count: usize) -> Result<Vec<Option<LentName<'a>>>
 }
 
 impl<'a> LentNames<'a> {
-    // No names. It takes no memory.
+    // A table without slots. It takes no memory.
     pub(crate) fn none(alloc: Global) -> Self
         ensures { (strings : Strings) → AreLent strings result.slots.items }
     {
@@ -62,7 +62,7 @@ impl<'a> LentNames<'a> {
         }
     }
 
-    // Those among the names of a table's texts.
+    // A table of the borrowed names among the strings of a table.
     pub(crate) fn new(
         alloc: Global,
         table: &StringTable,
@@ -80,7 +80,7 @@ impl<'a> LentNames<'a> {
         Ok(lent)
     }
 
-    // Puts the name of this number at its slot, if the records lend it.
+    // Stores the name with this number in its slot, if it is borrowed from the records.
     fn put(&mut self, names: &BTreeMap<u32, CowStr<'a>>, number: u32)
         ensures { (strings : Strings) → KnowsNames strings names.now
             → AreLent strings self.old.slots.items → AreLent strings self.new.slots.items }
@@ -93,7 +93,7 @@ impl<'a> LentNames<'a> {
         }
     }
 
-    // The name of this number, if it is at its slot.
+    // The name with this number, if it is in its slot.
     pub(crate) fn name(&self, number: u32) -> Option<&'a str>
         ensures { IfSome result (λ name. (strings : Strings) → AreLent strings self.now.slots.items
             → name_under strings number ≡ Some (borrowed_name name.now)) }

@@ -1,8 +1,7 @@
-//! What the frames of a function are made of.
+//! The parts of a function's frames: line rows, file names and inlined bodies.
 //!
-//! The records of a module show from which line of which file its code comes, and which bodies
-//! were inlined there. Here are the rows over an offset, the names of files, where code comes from, and the
-//! frames themselves.
+//! The records of a module say from which line of which file its code comes, and which functions were inlined there.
+//! This crate has the lookup of line rows, the names of files, the source of code, and the frames themselves.
 #![tactic(auto)]
 
 mod code_cache;

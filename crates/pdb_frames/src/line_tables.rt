@@ -1,4 +1,4 @@
-//! The line rows of line programs by section offset, in a table for each module that is made once.
+//! Tables of line rows by section offset, one for each module's line program, which are made once.
 
 ghost use Rattle.std.specs.Prelude.{◌≡◌, IfOk};
 ghost use Rattle.std.specs.BTreeMap.{get};
@@ -17,15 +17,14 @@ use std::alloc::{AllocError, Global};
 use std::collections::BTreeMap;
 use std::marker::Model;
 
-// The line rows of one line program, those of each function found by its section offset in a table that is made
-// once.
+// A table of the line rows in one line program, by the section offsets of their functions.
 #[derive(Drop)]
 pub(crate) struct LineEntries<'a> {
     program: &'a LineProgram,
     known: BTreeMap<PdbInternalSectionOffset, &'a Reading<LineInfo>>,
 }
 
-// Clauses see the entries as the line program.
+// Contracts see the table as the line program.
 impl<'a> Model for LineEntries<'a> {
     ghost use Rattle.std.specs.Prelude.{◌≡◌};
     ghost use Rattle.std.specs.BTreeMap.{get};
@@ -45,7 +44,7 @@ impl<'a> Model for LineEntries<'a> {
 }
 
 impl<'a> LineEntries<'a> {
-    // A table of all entries.
+    // Makes a table of all entries.
     pub(crate) fn new(alloc: Global, program: &'a LineProgram) -> Result<Self, AllocError>
         ensures { IfOk result (λ entries. entries ≡ program.now) }
     {
@@ -56,7 +55,7 @@ impl<'a> LineEntries<'a> {
         Ok(LineEntries { program, known })
     }
 
-    // The rows of the function that starts at a section offset, of the first entry for it.
+    // The rows of the function that starts at a section offset. If it has several entries, the first one counts.
     pub(crate) fn rows_at(
         &self,
         section_offset: PdbInternalSectionOffset,
@@ -70,7 +69,7 @@ impl<'a> LineEntries<'a> {
     }
 }
 
-// They are made once for each module index.
+// A table is made once for each module index.
 impl Once<usize> for LineEntries<'_> {
     ghost Source = { ModuleRecords };
 
@@ -79,7 +78,7 @@ impl Once<usize> for LineEntries<'_> {
     ghost antisymmetric = { nat_cmp-IsAntisymmetric };
 }
 
-// The line rows of modules' line programs, by module index. Each line program is walked once.
+// The tables of line rows, by module index. Each line program is walked over once.
 #[derive(Drop)]
 pub struct ProgramEntries<'a> {
     pub(crate) alloc: Global,
@@ -87,7 +86,7 @@ pub struct ProgramEntries<'a> {
 }
 
 impl<'a> ProgramEntries<'a> {
-    // Nothing yet. It takes no memory.
+    // An empty cache. It takes no memory.
     pub(crate) fn new(alloc: Global) -> Self
         ensures { (records : ModuleRecords) → HoldsOfEach nat_cmp (HasProgram records) result.cached.made }
     {

@@ -1,4 +1,4 @@
-//! The cache of procedures' inline ranges, each as the stacks over its offsets.
+//! `ProcedureRanges`: a cache of procedures' inline ranges, in which the stack at an offset is found.
 
 ghost use Rattle.std.specs.Prelude.{◌≡◌, Some};
 ghost use Rattle.std.specs.Ordering.{nat_cmp};
@@ -16,7 +16,7 @@ use pdb_records::ModuleInfo;
 use pdb_tables::{Once, OnceMap, Probes};
 use std::alloc::Global;
 
-// They are made once for each procedure.
+// The stacks of a procedure are made once.
 impl Once<ProcedureKey> for ProcedureStacks {
     ghost Source = { ModuleRecords };
 
@@ -25,8 +25,8 @@ impl Once<ProcedureKey> for ProcedureStacks {
     ghost antisymmetric = { procedure_cmp-IsAntisymmetric };
 }
 
-// The ranges of procedures' code that came from inlined bodies, by module index and their
-// symbols. A procedure's symbols are walked once, and its ranges are put in a table once.
+// The inline ranges of procedures, by module index and symbols. A procedure's symbols are walked over once, and the
+// table of its ranges is made once.
 #[derive(Drop)]
 pub struct ProcedureRanges {
     pub(crate) alloc: Global,
@@ -34,7 +34,7 @@ pub struct ProcedureRanges {
 }
 
 impl ProcedureRanges {
-    // Nothing yet. It takes no memory.
+    // An empty cache. It takes no memory.
     pub fn new(alloc: Global) -> Self
         ensures { (records : ModuleRecords) → HoldsOfEach procedure_cmp (AreRangesOf records) result.cached.made }
     {
@@ -44,8 +44,8 @@ impl ProcedureRanges {
         }
     }
 
-    // The inlined bodies over an offset of a procedure, the outermost first, by the records of the module
-    // at a module index. Refused as the procedure's inline ranges are.
+    // The inlined bodies at an offset of a procedure, the outermost first, by the records of the module at a module
+    // index. Refused for the same reasons as the procedure's inline ranges.
     pub fn stack(
         &mut self,
         infos: &ExtendedInfos<'_>,

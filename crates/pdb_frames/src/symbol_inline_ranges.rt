@@ -1,4 +1,4 @@
-//! The inline ranges of a procedure that was found, by its symbols in the records of its module.
+//! Computes the inline ranges of a procedure from the symbols of its module.
 
 ghost use Rattle.pdb_errors.specs.Outcomes.{Gives};
 ghost use Rattle.pdb_inline.specs.InlineRanges.{procedure_inline_ranges};
@@ -10,17 +10,17 @@ use pdb_records::{IdIndex, ModuleInfo};
 use std::alloc::Global;
 use std::collections::BTreeSet;
 
-/// The ranges of a procedure's code that came from inlined bodies, by depth and start.
+/// The ranges of a procedure's code that came from inlined bodies, sorted by depth and start.
 ///
-/// At a depth each site has the ranges of its own rows, and one for each run of code that rows of sites
-/// inside it cover and its own do not; such a range has the file of the site's first row, and no line. Of
-/// one depth and start, ranges of rows stand before added ones, and sites in the order of their symbols.
-/// Rows count where the site's id is among the inlinees.
+/// Each site has the ranges of its own rows. It also has a range for each run of code that rows of sites inside it
+/// cover, but its own rows don't; such a range has the file of the site's first row, and no line. With equal depth and
+/// start, ranges of rows come before added ones, and sites in the order of their symbols. Rows count only if the site's
+/// id is among the inlinees.
 ///
 /// # Errors
 ///
-/// [`Error::PdbError`](pdb_errors::Error::PdbError) where the procedure's symbols go on to the end of the
-/// list, and that has a fault.
+/// [`Error::PdbError`](pdb_errors::Error::PdbError) if the procedure's symbols continue to the end of the list, and the
+/// list ends early.
 pub fn compute_procedure_inline_ranges(
     alloc: Global,
     module_info: &ModuleInfo,

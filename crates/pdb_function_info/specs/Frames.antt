@@ -26,11 +26,11 @@ use Rattle.pdb_function_info.specs.NameTexts.{function_name, failed_by_function_
 use Rattle.pdb_frames.specs.CodeLocations.{CodeLocation, code_location}
 use Rattle.pdb_functions.specs.FunctionMatches.{function_module, function_start}
 
--- the string table of a program, where it has one
+-- the string table of a program, if it has one
 abbrev pub Strings : Type 0
 Strings = Option (List (StringRef × List ℕ))
 
--- the frame of a function itself: its name, and the file and the line of the row over the offset, where there is one
+-- the frame of a function itself: its name, and the file and the line of the row at the offset, if there is one
 abbrev pub own_frame : Strings → Option (List ℕ) → Lines → Option LineInfo → FrameInfo
 own_frame strings name program row = record {
   function = name;
@@ -51,15 +51,15 @@ abbrev pub inlined_frames : Strings → Lines → (IdIndex → Option (List ℕ)
 inlined_frames strings program name_of ranges =
     map (λ range. inlined_frame strings program (name_of range.inlinee) range) ranges
 
--- the frames of code that comes from here, from inside to outside: those of the inlined bodies, and last that of the
+-- the frames of code with this location, from inside to outside: those of the inlined bodies, and last that of the
 -- function itself
 abbrev pub code_location_frames : Strings → (IdIndex → Option (List ℕ)) → Option (List ℕ) → CodeLocation → List FrameInfo
 code_location_frames strings name_of name o =
     reverse (inlined_frames strings o.line_program name_of o.stack)
     ++ own_frame strings name o.line_program o.row ∷ []
 
--- the frames of a function of this name at an offset: where there are no records of its module, the one frame of the
--- function, without a file and a line; else those of where the code comes from, refused as that is
+-- the frames of a function with this name at an offset. Without records of its module, they are only the function's
+-- frame, without a file and a line. Otherwise they are those of the code's location, or its error
 abbrev pub function_frames : Strings → (IdIndex → Option (List ℕ)) → Option (List ℕ) → Option ModuleInfo
     → FunctionMatch → ℕ → Result (List FrameInfo) Error
 function_frames strings name_of name None found x =
@@ -67,15 +67,15 @@ function_frames strings name_of name None found x =
 function_frames strings name_of name (Some info) found x =
     and_then (code_location info found x) (λ o. Ok (code_location_frames strings name_of name o))
 
--- the size of a function in bytes, where it is known: a global function reaches to the next one of its section, if
--- there is one
+-- the size of a function in bytes, if it is known; a global function ends at the next one of its section, if there is
+-- one
 abbrev pub function_size : List GlobalFunction → FunctionMatch → Option ℕ
 function_size globals (found_procedure m p) = Some p.len
 function_size globals (found_global m f) =
     option_map (λ next. next.start.offset - f.start.offset) (next_global f.start globals)
 
--- the frames info of a function that lies over a section offset, at an offset there: where it starts and ends, as
--- far as that is known and fits 32 bits, and the frames. There is none of a function without an address
+-- the frames info of a function at an offset of its section: its start and its end, as far as that is known and fits in
+-- 32 bits, and the frames. A function without an address has none
 abbrev pub info_of_frames : {P : Type 0} → (P → ProviderInfos) → TypeInputs P → Strings → List AddressRange
     → List GlobalFunction → Option ModuleInfo → FunctionMatch → ℕ → Result (Option FramesInfo) Error
 info_of_frames info type_inputs strings sections globals records found x =
@@ -89,18 +89,18 @@ info_of_frames info type_inputs strings sections globals records found x =
       frames = frames;
     })))) (rva sections (function_start found)) (Ok None)
 
--- the parts that failed once inlined bodies are named, the outermost first
+-- the parts that have failed after inlined bodies were named, the outermost first
 abbrev pub failed_by_ids : (IdIndex → Parts → Parts) → List InlineRange → Parts → Parts
 failed_by_ids failed_by ranges failed = fold (λ before range. failed_by range.inlinee before) failed ranges
 
--- the inlined bodies over an offset of a function: none where there are no records of its module, and where it is
--- refused where the code comes from
+-- the inlined bodies at an offset of a function; none without records of its module, or if the code's location is an
+-- error
 abbrev pub bodies_over : Option ModuleInfo → FunctionMatch → ℕ → List InlineRange
 bodies_over records found x =
     option_map_or (λ o. o.stack) (option_and_then (λ info. result_ok (code_location info found x)) records) []
 
--- the parts that failed once a function's frames are answered: first those by its own name, then those by the names of
--- the inlined bodies
+-- the parts that have failed after a function's frames: those by its own name, then those by the names of the inlined
+-- bodies
 abbrev pub failed_by_frames : {P : Type 0} → (P → ProviderInfos) → TypeInputs P → List AddressRange
     → List GlobalFunction
     → Option ModuleInfo → FunctionMatch → ℕ → Parts → Parts
@@ -110,7 +110,7 @@ failed_by_frames info type_inputs sections globals records found x failed =
     let all_named = failed_by_ids failed_by (bodies_over records found x) named in
     option_map_or (λ start. all_named) (rva sections (function_start found)) failed
 
--- a fact of each outcome but out of memory
+-- a fact about each result except an allocation failure
 abbrev pub ButForMemory : {A : Type 0} → Result A Error → Type 0 → Type 0
 ButForMemory (Ok answer) fact = fact
 ButForMemory (Err error) fact = error ≢ OutOfMemory → fact

@@ -14,23 +14,23 @@ use Rattle.pdb_functions.specs.Procedures.{ModuleProcedure}
 use Rattle.pdb_functions.specs.FunctionMatches.{FunctionMatch, found_procedure, found_global, next_global}
 use Rattle.pdb_function_info.specs.NameTexts.{procedure_name, failed_by_name}
 
--- a function's addresses and its name, as far as they are known
+-- a function: its start, and its end and name as far as they are known
 pub record FunctionInfo : Type 0 where
   pub start_rva : ℕ
   pub end_rva : Option ℕ
   pub name : Option (List ℕ)
 
--- the same, as the code has it
+-- the model of the code's `Function`
 abbrev pub function_view : Function → FunctionInfo
 function_view f = record { start_rva = f.start_rva; end_rva = f.end_rva; name = option_map string_bytes f.name }
 
--- where a global function ends: at the next one of its section, if there is one; no answer where that one has no
+-- the end of a global function: the start of the next one of its section, if there is one; no answer if that one has no
 -- address
 abbrev pub global_end : List AddressRange → Option GlobalFunction → Option (Option ℕ)
 global_end sections None = Some None
 global_end sections (Some next) = option_map (λ address. Some address.0) (rva sections next.start)
 
--- the sum, where it fits 32 bits
+-- the sum, if it fits in 32 bits
 abbrev pub sum_in_32_bits : ℕ → ℕ → Option ℕ
 sum_in_32_bits a b = if nat_lt (a + b) (2 ^ 32) then Some (a + b) else None
 
@@ -41,7 +41,7 @@ info_of_global sections globals f =
     option_map (λ end. record { start_rva = start.0; end_rva = end; name = option_map lossy f.name })
     (global_end sections (next_global f.start globals))) (rva sections f.start)
 
--- the function info of a procedure of this name
+-- the function info of a procedure with this name
 abbrev pub info_of_procedure : List AddressRange → ModuleProcedure → Option (List ℕ) → Option FunctionInfo
 info_of_procedure sections p name =
     option_map (λ start. record {
@@ -50,7 +50,7 @@ info_of_procedure sections p name =
       name = name;
     }) (rva sections p.offset)
 
--- the function info of a function that lies over a section offset
+-- the function info of the function that was found at a section offset
 abbrev pub info_of : {P : Type 0} → (P → ProviderInfos) → TypeInputs P → List AddressRange → List GlobalFunction
     → FunctionMatch
     → Option FunctionInfo
@@ -58,7 +58,7 @@ info_of info type_inputs sections globals (found_global m f) = info_of_global se
 info_of info type_inputs sections globals (found_procedure m p) =
     info_of_procedure sections p (procedure_name info type_inputs globals m p)
 
--- the parts that failed once that is answered: those by its name, where a procedure has an address
+-- the parts that have failed after this function info: those by the name of a procedure with an address
 abbrev pub failed_after_info : {P : Type 0} → (P → ProviderInfos) → TypeInputs P → List AddressRange
     → List GlobalFunction
     → FunctionMatch → Parts → Parts

@@ -1,4 +1,4 @@
-//! Signatures of procedures and names by ids, each printed once, and from then on taken from a cache.
+//! Prints each signature of a procedure and each name of an id once, and then takes it from a cache.
 
 ghost use Rattle.std.specs.Prelude.{◌≡◌, Some, List, ℕ, option_map, string_bytes, OnOk, MatchResult};
 ghost use Rattle.pdb_records.specs.Names.{lossy};
@@ -41,7 +41,8 @@ fn cache_signature<P: ModuleProvider>(
     cached.texts.put(key, text)
 }
 
-// The signature of a procedure of the module at a module index, if it can be printed. It is printed once.
+// The signature of a procedure of the module at a module index, if it can be printed. It is printed once, and then
+// cached.
 pub(crate) fn signature_once<P: ModuleProvider>(
     alloc: Global,
     formatter: &mut TypeFormatter<'_, P>,
@@ -92,7 +93,7 @@ fn cache_id<P: ModuleProvider>(
     cached.put(key, text)
 }
 
-// The text of an id as the module at a module index writes it, if it can be printed. It is printed once.
+// The text of an id that the module at a module index uses, if it can be printed. It is printed once, and then cached.
 pub(crate) fn id_once<P: ModuleProvider>(
     formatter: &mut TypeFormatter<'_, P>,
     cached: &mut CachedTexts<IdKey>,

@@ -1,4 +1,4 @@
-//! Signatures that were printed once, with the provider of the procedures' records.
+//! `CachedSignatures`: cached signatures of procedures, with the provider of the procedures' records.
 
 ghost use Rattle.std.specs.Prelude.{◌≡◌, []};
 
@@ -7,8 +7,8 @@ use crate::name_keys::SignatureKey;
 use pdb_records::ModuleProvider;
 use std::alloc::Global;
 
-// Signatures of procedures that were printed once. The provider has the records of the procedures' modules, in which
-// each symbol is of one procedure at most.
+// Cached signatures of procedures. The provider has the records of the procedures' modules. In these, each symbol
+// belongs to at most one procedure.
 #[derive(Drop)]
 pub(crate) struct CachedSignatures<'a, P: ModuleProvider> {
     pub(crate) provider: &'a P,
@@ -16,7 +16,7 @@ pub(crate) struct CachedSignatures<'a, P: ModuleProvider> {
 }
 
 impl<'a, P: ModuleProvider> CachedSignatures<'a, P> {
-    // Nothing yet. It takes no memory.
+    // An empty cache. It takes no memory.
     pub(crate) fn new(alloc: Global, provider: &'a P) -> Self
         ensures texts { result.texts.entries.items ≡ [] }
         ensures provider { result.provider ≡ provider.entry }

@@ -1,4 +1,4 @@
-//! Texts that were printed once, each with the key of what it was printed of.
+//! `CachedTexts`: cached texts by the key of the procedure or id from which each was printed.
 
 ghost use Rattle.std.specs.Prelude.{◌≡◌, true, [], ◌∷◌, ◌++◌, option_map, string_bytes, IfSome, IfOk, OnOk, OnErr};
 ghost use Rattle.pdb_function_info.specs.CachedNames.{HasText};
@@ -8,24 +8,24 @@ use crate::positions::PositionTable;
 use pdb_frames::copy_of_name;
 use std::alloc::{AllocError, Global};
 
-// What a text is cached by.
+// The key of a cached text.
 pub(crate) trait TextKey: Copy + Ord + Drop {
-    // Whether it is the same key as another.
+    // Whether two keys are the same.
     fn equals(self, other: Self) -> bool
         ensures { result ≡ true → self ≡ other };
 
-    // What the hint is kept by that says where the text stands.
+    // The key of the hint for the position of the text.
     fn hint_key(self) -> HintKey;
 }
 
-// A text that was printed, if it can be.
+// A cached text; `None` if it can't be printed.
 #[derive(Drop)]
 pub(crate) struct CachedText<K> {
     pub(crate) key: K,
     pub(crate) text: Option<String>,
 }
 
-// Texts that were printed once.
+// A cache of printed texts.
 #[derive(Drop)]
 pub(crate) struct CachedTexts<K: TextKey> {
     pub(crate) entries: Vec<CachedText<K>>,
@@ -33,7 +33,7 @@ pub(crate) struct CachedTexts<K: TextKey> {
 }
 
 impl<K: TextKey> CachedTexts<K> {
-    // Nothing yet. It takes no memory.
+    // An empty cache. It takes no memory.
     pub(crate) fn new(alloc: Global) -> Self
         ensures { result.entries.items ≡ [] }
     {
@@ -43,7 +43,7 @@ impl<K: TextKey> CachedTexts<K> {
         }
     }
 
-    // The text at a position, if it is cached by this key.
+    // The text at a position, if it has this key.
     fn text_at(&self, position: usize, key: K) -> Option<&Option<String>>
         ensures { IfSome result (λ text. HasText self.now.entries.items key (option_map string_bytes text.now)) }
     {
@@ -55,7 +55,7 @@ impl<K: TextKey> CachedTexts<K> {
         }
     }
 
-    // The text that a hint leads to, if it is cached by this key.
+    // The text at the position in a hint, if it has this key.
     fn text_by(&self, hint: Option<u32>, key: K) -> Option<&Option<String>>
         ensures { IfSome result (λ text. HasText self.now.entries.items key (option_map string_bytes text.now)) }
     {
@@ -63,7 +63,7 @@ impl<K: TextKey> CachedTexts<K> {
         self.text_at(position as usize, key)
     }
 
-    // The text of a key, if it stands where a hint says.
+    // The text of a key, if a hint leads to it.
     fn at_hint(&self, key: K) -> Option<&Option<String>>
         ensures { IfSome result (λ text. HasText self.now.entries.items key (option_map string_bytes text.now)) }
     {
@@ -75,14 +75,14 @@ impl<K: TextKey> CachedTexts<K> {
         None
     }
 
-    // The position of the text that was cached last by a key, where one was.
+    // The position of the last text that was cached for a key, if there is one.
     fn position(&mut self, key: K) -> Option<usize>
         ensures { self.new.entries ≡ self.old.entries }
     {
         self.positions.find(&key, key.hint_key())
     }
 
-    // A copy of the text of a key, where one is cached.
+    // A copy of the text that is cached for a key, if there is one.
     pub(crate) fn text(&mut self, key: K) -> Result<Option<Option<String>>, AllocError>
         ensures answer { IfOk result (λ cached. IfSome cached
             (λ text. HasText self.old.entries.items key (option_map string_bytes text))) }

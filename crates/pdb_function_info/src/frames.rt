@@ -1,4 +1,4 @@
-//! Frames info: where a function starts and ends, and its frames at an offset in its code.
+//! Makes frames info: where a function starts and ends, and its frames at an offset of its code.
 
 ghost use Rattle.std.specs.Prelude.{◌≡◌, [], ◌∷◌, ◌++◌, None, option_map, option_and_then};
 ghost use Rattle.std.specs.Prelude.{string_bytes, Some, IfOk, IfSome, OnOk, MatchResult};
@@ -28,7 +28,7 @@ use pdb_records::{AddressMap, LineInfo, LineProgram, ModuleInfo, ModuleProvider}
 use pdb_tables::Probes;
 use std::alloc::{AllocError, Global};
 
-// The frame of a function itself, by its name and the line row over the code.
+// The frame of the containing function, by its name and the line row that covers the code.
 fn own_frame<'a>(
     files: &FileNames<'a>,
     function: Option<String>,
@@ -73,8 +73,8 @@ fn inlined_frame<'a>(
     })
 }
 
-// The frames of inlined bodies, in the order of their ranges, in a list that has room for one more. Each is named by
-// its id.
+// The frames of inlined bodies, in the order of their ranges. Each is named by its id. The list has capacity for one
+// more frame.
 fn inlined_frames<'a, P: ModuleProvider>(
     alloc: Global,
     files: &FileNames<'a>,
@@ -102,8 +102,8 @@ fn inlined_frames<'a, P: ModuleProvider>(
     Ok(frames)
 }
 
-// The frames of code that comes from here, from inside to outside: those of the inlined bodies, and last
-// that of the function itself.
+// The frames for a code location, the innermost first: those of the inlined bodies, and last that of the containing
+// function.
 fn frames_of_location<'a, P: ModuleProvider>(
     alloc: Global,
     files: &FileNames<'a>,
@@ -138,7 +138,7 @@ fn frames_of_location<'a, P: ModuleProvider>(
     Ok(frames)
 }
 
-// The one frame of a function of which nothing but its name is known.
+// The single frame of a function of which only the name is known.
 fn name_alone<'a>(alloc: Global, function: Option<String>) -> Result<Vec<Frame<'a>>, AllocError>
     ensures { IfOk result (λ v. v.items
         ≡ record { function = option_map string_bytes function; file = None; line = None } ∷ []) }
@@ -152,8 +152,8 @@ fn name_alone<'a>(alloc: Global, function: Option<String>) -> Result<Vec<Frame<'
     Ok(frames)
 }
 
-// The frames of a function of this name at an offset, from inside to outside. Without records of its
-// module it is one frame.
+// The frames of a function with this name at an offset, the innermost first. If its module has no records, there is
+// only one.
 fn frames_of_function<'a, P: ModuleProvider>(
     alloc: Global,
     files: &FileNames<'a>,
@@ -192,8 +192,7 @@ fn frames_of_function<'a, P: ModuleProvider>(
     frames_of_location(alloc, files, names, module_index, name, &code_location)
 }
 
-// The size of a function in bytes, if it is known. A global function reaches to the next one of its
-// section.
+// The size of a function in bytes, if it is known. A global function extends to the next one of its section.
 fn function_size(functions: &GlobalFunctionTable<'_>, function: FunctionMatch<'_>) -> Option<u32>
     ensures { result ≡ function_size functions.now (function_match function.entry) }
 {
@@ -211,14 +210,14 @@ fn function_size(functions: &GlobalFunctionTable<'_>, function: FunctionMatch<'_
     }
 }
 
-// Where a function starts, and where it ends, if that is known and fits 32 bits.
+// The start of a function, and its end if that is known and fits 32 bits.
 #[derive(Clone, Copy)]
 struct FunctionAddresses {
     start_rva: u32,
     end_rva: Option<u32>,
 }
 
-// The addresses of a function. `None` where it has none.
+// The addresses of a function; `None` if its start has no address.
 fn addresses_of(
     address_map: &AddressMap,
     functions: &GlobalFunctionTable<'_>,
@@ -241,8 +240,7 @@ fn addresses_of(
     })
 }
 
-/// The frames info of a function that lies over a section offset, at an offset there. `None` where
-/// the function has no address.
+/// The frames info of a function that was found at a section offset. `None` if the function's start has no address.
 pub fn frames_info<'a, P: ModuleProvider>(
     alloc: Global,
     address_map: &AddressMap,

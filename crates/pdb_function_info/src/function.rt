@@ -1,4 +1,4 @@
-//! Function info: where a function starts and ends, and its name.
+//! `Function`: where a function starts and ends, and its name.
 
 ghost use Rattle.std.specs.Prelude.{◌≡◌, Some, option_map, string_bytes, IfOk, OnOk, MatchResult};
 ghost use Rattle.std.specs.Option.{option_copied, option_map_or};
@@ -25,18 +25,17 @@ use std::alloc::{AllocError, Global};
 /// A function's addresses and its name.
 #[derive(Drop)]
 pub struct Function {
-    /// Where the function starts, relative to where the program is loaded.
+    /// The start of the function, relative to where the program is loaded.
     pub start_rva: u32,
-    /// Where it ends: the address of the first byte after it, if it is known and fits 32 bits.
+    /// The address just after the function, if it is known and fits 32 bits.
     pub end_rva: Option<u32>,
-    /// The name, if one is known. That of a procedure is its signature, as the formatter's flags want it.
-    /// That of a public symbol may be decorated: it then begins with a question mark, and a demangler can
-    /// take it apart.
+    /// The name, if it is known. That of a procedure is its signature, according to the formatter's flags. That of a
+    /// public symbol may be decorated: then it begins with a question mark, and can be passed to a demangler.
     pub name: Option<String>,
 }
 
 impl Function {
-    /// An equal function.
+    /// A copy of the function.
     pub fn clone(&self) -> Result<Self, AllocError>
         ensures { IfOk result (λ f. function_view f ≡ function_view self.now) }
     {
@@ -83,8 +82,8 @@ fn procedure_info<'a, P: ModuleProvider>(
     }))
 }
 
-// Where a global function ends, if the next one of its section shows it. `None` where that one has no
-// address.
+// The end of a global function, by the next one of its section. The outer `None` means that the next one has no
+// address; the inner one that there is no next one.
 fn end_of_global(address_map: &AddressMap, next: Option<GlobalFunction<'_>>) -> Option<Option<u32>>
     ensures { result ≡ global_end address_map.now (option_map global_function next.entry) }
 {
@@ -123,7 +122,7 @@ fn global_function_info(
     }))
 }
 
-/// The function info of a function that lies over a section offset.
+/// The function info of a function that was found at a section offset.
 pub fn function_info<'a, P: ModuleProvider>(
     alloc: Global,
     address_map: &AddressMap,

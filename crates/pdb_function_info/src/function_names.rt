@@ -1,4 +1,4 @@
-//! `FunctionNames`: the names of functions and of inlined bodies, printed by a formatter and cached.
+//! `FunctionNames`: prints and caches the names of functions and of inlined bodies.
 
 ghost use Rattle.std.specs.Prelude.{◌≡◌, Some, option_map, string_bytes, OnOk, OnErr, MatchResult};
 ghost use Rattle.pdb_records.specs.Names.{lossy};
@@ -27,10 +27,10 @@ use pdb_type_printer::TypeFormatter;
 use std::alloc::Global;
 use std::marker::Model;
 
-/// The names of functions, as a formatter prints them. Each is printed once.
+/// The names of functions, as a formatter prints them. Each is printed once, and then cached.
 ///
-/// What is cached shows in no answer: it is what the formatter would print again, and printing it again would
-/// meet no part of the records broken that isn't remembered already.
+/// Caching doesn't change answers. The formatter would print the same again, and would find no broken part that isn't
+/// already remembered.
 pub struct FunctionNames<'a, P: ModuleProvider> {
     alloc: Global,
     formatter: TypeFormatter<'a, P>,
@@ -49,7 +49,7 @@ impl<P: ModuleProvider> Drop for FunctionNames<'_, P> {
     }
 }
 
-// Clauses see the formatter, and the provider of the procedures' records.
+// Contracts see the formatter, and the provider of the procedures' records.
 impl<'a, P: ModuleProvider> Model for FunctionNames<'a, P> {
     ghost use Rattle.pdb_function_info.specs.CachedNames.{Namer, IsSignatureCache, IsIdCache};
 
@@ -69,7 +69,7 @@ impl<'a, P: ModuleProvider> Model for FunctionNames<'a, P> {
 }
 
 impl<'a, P: ModuleProvider> FunctionNames<'a, P> {
-    /// The names that a formatter prints of procedures whose records a provider has. It takes no memory.
+    /// Names that a formatter prints, for procedures whose records a provider has. It takes no memory.
     pub fn new(alloc: Global, provider: &'a P, formatter: TypeFormatter<'a, P>) -> Self
         ensures type_inputs { result.type_inputs ≡ formatter.entry.type_inputs }
         ensures failed { result.failed ≡ formatter.entry.failed }
@@ -83,7 +83,7 @@ impl<'a, P: ModuleProvider> FunctionNames<'a, P> {
         }
     }
 
-    /// The formatter back, with what it remembers.
+    /// Returns the formatter, with everything that it remembers.
     pub fn into_type_formatter(self) -> TypeFormatter<'a, P>
         ensures type_inputs { result.type_inputs ≡ self.entry.type_inputs }
         ensures failed { result.failed ≡ self.entry.failed }
@@ -97,7 +97,7 @@ impl<'a, P: ModuleProvider> FunctionNames<'a, P> {
         formatter
     }
 
-    /// Gives the memory of the names back that are cached. They are printed again when they are asked for.
+    /// Frees the memory of the cached names. They are printed again when they are needed.
     pub fn clear_caches(&mut self)
         ensures unchanged { self.new ≡ self.old }
     {
@@ -112,7 +112,7 @@ impl<'a, P: ModuleProvider> FunctionNames<'a, P> {
         self.formatter.modules()
     }
 
-    /// What [`TypeFormatter::get_type_size`] answers.
+    /// Calls [`TypeFormatter::get_type_size`].
     pub fn get_type_size(&mut self, module_index: usize, index: TypeIndex) -> Result<u64>
         ensures answer { MatchResult result
             (λ size. size ≡ (size_of P.info self.old.type_inputs module_index index.0).size)
@@ -126,7 +126,7 @@ impl<'a, P: ModuleProvider> FunctionNames<'a, P> {
         self.formatter.get_type_size(module_index, index)
     }
 
-    /// What [`TypeFormatter::format_function`] answers.
+    /// Calls [`TypeFormatter::format_function`].
     pub fn format_function(
         &mut self,
         name: &str,
@@ -144,7 +144,7 @@ impl<'a, P: ModuleProvider> FunctionNames<'a, P> {
         self.formatter.format_function(name, module_index, index)
     }
 
-    /// What [`TypeFormatter::format_id`] answers.
+    /// Calls [`TypeFormatter::format_id`].
     pub fn format_id(&mut self, module_index: usize, index: IdIndex) -> Result<String>
         ensures answer { AnswersText
             (id_run P.info self.old.type_inputs module_index index.0 self.old.failed)
@@ -157,8 +157,8 @@ impl<'a, P: ModuleProvider> FunctionNames<'a, P> {
         self.formatter.format_id(module_index, index)
     }
 
-    // The name of a function whose body was inlined, by its id as the module at this module index writes it, if
-    // it can be printed. Answers `OutOfMemory` where memory runs out.
+    // The name of an inlined function, if it can be printed. Its id is one that the module at this module index uses.
+    // `OutOfMemory` if memory runs out.
     pub(crate) fn name_of_id(&mut self, module_index: usize, id: IdIndex) -> Result<Option<String>>
         ensures answer { MatchResult result
             (λ name. option_map string_bytes name ≡ id_name P.info self.old.type_inputs module_index id)
@@ -173,7 +173,7 @@ impl<'a, P: ModuleProvider> FunctionNames<'a, P> {
         id_once(&mut self.formatter, &mut self.ids, module_index, id)
     }
 
-    // The name of a procedure of a module, if one is known.
+    // The name of a procedure of a module, if it is known.
     pub(crate) fn name_of_procedure(
         &mut self,
         functions: &GlobalFunctionTable<'_>,
@@ -231,7 +231,7 @@ impl<'a, P: ModuleProvider> FunctionNames<'a, P> {
         )
     }
 
-    // The name of a function that was found, if one is known.
+    // The name of a function that was found, if it is known.
     pub(crate) fn name_of_function(
         &mut self,
         functions: &GlobalFunctionTable<'_>,

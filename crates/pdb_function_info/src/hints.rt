@@ -1,29 +1,29 @@
-//! Hints at where entries stand in a list, tried before a map is searched.
+//! `HintTable`: a hash table of hints at which position of a list an entry is. It is tried before a map is searched.
 
 use std::alloc::{AllocError, Global};
 
-// How many homes there are at first.
+// The first number of homes.
 const FEWEST_HOMES: usize = 16;
 
-// How many slots next to one another a hint may stand at: its home, and those after it.
+// The number of consecutive slots in which a hint may be: its home, and those after it.
 const NEIGHBOURS: usize = 8;
 
-// Hints at where entries stand in a list, by their numbers.
+// Hints at which position of a list an entry is, by the entry's number.
 //
-// A number has a home among the slots, which it may share with others, and its hint stands there or at one of the
-// next slots. Hints whose numbers are near one another stand near one another, too. A hint may be wrong, so whoever
-// asks looks whether what stands there is meant.
+// Each number has a home slot, which other numbers may share. Its hint is there or in one of the next slots. So the
+// hints of nearby numbers are near each other, too. A hint may be wrong: the caller must check whether the entry at its
+// position is the right one.
 #[derive(Drop)]
 pub(crate) struct HintTable {
     slots: Vec<Option<u32>>,
-    // A power of two, or 0 where there are no slots.
+    // The number of homes: a power of two, or 0 if there are no slots.
     homes: usize,
-    // How many numbers hints were inserted for.
+    // The number of inserted hints.
     inserted: usize,
 }
 
 impl HintTable {
-    // Nothing yet. It takes no memory.
+    // An empty table. It takes no memory.
     pub(crate) fn new(alloc: Global) -> Self {
         HintTable {
             slots: Vec::new(alloc),
@@ -37,7 +37,7 @@ impl HintTable {
         number & self.homes.wrapping_sub(1)
     }
 
-    // The hints that may be meant for a number.
+    // The hints that may belong to a number.
     pub(crate) fn near(&self, number: usize) -> &[Option<u32>] {
         let home = self.home_of(number);
         self.slots
@@ -45,7 +45,7 @@ impl HintTable {
             .unwrap_or(&[])
     }
 
-    // The first free slot for the hint of a number, or its home where none is free.
+    // The first free slot for the hint of a number, or its home if none is free.
     fn slot_for(&self, number: usize) -> usize {
         let home = self.home_of(number);
         match self.near(number).iter().position(|hint| hint.is_none()) {
@@ -54,7 +54,7 @@ impl HintTable {
         }
     }
 
-    // Has a number lead to a position. A position past 32 bits gets no hint.
+    // Stores a position as the hint for a number. A position of more than 32 bits gets no hint.
     pub(crate) fn put(&mut self, number: usize, position: usize) {
         let slot = self.slot_for(number);
         if let Some(hint) = self.slots.get_mut(slot) {
@@ -62,8 +62,7 @@ impl HintTable {
         }
     }
 
-    // Makes room for one number more, where fewer than half of the homes would be left. Older hints are forgotten
-    // then.
+    // Makes room for one more hint. If half of the homes are used, the table is doubled, and older hints are forgotten.
     pub(crate) fn make_room(&mut self) -> Result<(), AllocError> {
         if self.inserted >= self.homes / 2 {
             let homes = self.homes.saturating_mul(2).max(FEWEST_HOMES);
@@ -78,7 +77,7 @@ impl HintTable {
     }
 }
 
-// So many slots without a hint.
+// `count` empty slots.
 fn free_slots(alloc: Global, count: usize) -> Result<Vec<Option<u32>>, AllocError> {
     let mut slots = Vec::with_capacity(alloc, count)?;
     for _ in 0..count {

@@ -1,7 +1,7 @@
-//! Function info and frames info of a function that was found: its addresses, its name and its frames.
+//! Makes the function info and frames info of a function that was found: its addresses, its name and its frames.
 //!
-//! Names of procedures and of inlined bodies are printed by a formatter. [`FunctionNames`] caches each, so that
-//! it is printed once.
+//! A formatter prints the names of procedures and of inlined bodies. [`FunctionNames`] caches each name, so that it is
+//! printed once.
 #![tactic(auto)]
 
 mod cached_names;

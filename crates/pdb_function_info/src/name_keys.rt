@@ -1,4 +1,4 @@
-//! What names are cached by: a procedure's symbol and type, or an id, each in its module.
+//! The keys of cached names: a procedure's symbol and type, or an id, each with its module.
 
 ghost use Rattle.std.specs.Prelude.{◌≡◌};
 
@@ -6,14 +6,14 @@ use crate::cached_texts::TextKey;
 use pdb_functions::ProcedureSymbolFunction;
 use pdb_records::IdIndex;
 
-// What a hint is kept by: a module index, and a number in that module, of a symbol or of an id.
+// The key of a hint: a module index, and the number of a symbol or an id in that module.
 #[derive(Clone, Copy)]
 pub(crate) struct HintKey {
     pub(crate) module_index: usize,
     pub(crate) number: usize,
 }
 
-// A procedure whose name is cached: its module index, its symbol, and the index of its type.
+// The key of a procedure's name: its module index, its symbol, and the index of its type.
 #[derive(Clone, Copy, PartialEq, Eq, PartialOrd, Ord)]
 pub(crate) struct SignatureKey {
     pub(crate) module_index: usize,
@@ -21,7 +21,7 @@ pub(crate) struct SignatureKey {
     pub(crate) type_index: u32,
 }
 
-// An id whose text is cached: the module index of the module that writes it, and its index.
+// The key of an id's text: the index of the module that uses it, and the id's index.
 #[derive(Clone, Copy, PartialEq, Eq, PartialOrd, Ord)]
 pub(crate) struct IdKey {
     pub(crate) module_index: usize,
@@ -72,7 +72,7 @@ pub(crate) fn signature_key(
     }
 }
 
-// The key of an id, as the module at a module index writes it.
+// The key of an id that the module at a module index uses.
 pub(crate) fn id_key(module_index: usize, id: IdIndex) -> IdKey
     ensures { result ≡ record { module_index = module_index; index = id.0 } }
 {

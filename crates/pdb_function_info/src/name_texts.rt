@@ -1,4 +1,4 @@
-//! Names as text, and the decorated name that a procedure goes by in place of its own.
+//! Names as text, and the decorated name that replaces a procedure's own.
 
 ghost use Rattle.std.specs.Prelude.{◌≡◌, option_map, string_bytes, IfOk};
 ghost use Rattle.std.specs.Option.{option_copied};
@@ -12,7 +12,7 @@ use pdb_records::{PdbInternalSectionOffset, RawString};
 use pdb_tables::Probes;
 use std::alloc::{AllocError, Global};
 
-// Whether a name is one that a compiler decorated.
+// Whether a name is decorated by a compiler.
 fn is_decorated_name(name: &RawString) -> bool
     ensures { result ≡ is_decorated name.now }
 {
@@ -26,7 +26,7 @@ pub(crate) fn text_of(alloc: Global, name: &RawString) -> Result<String, AllocEr
     name.to_string_lossy(alloc)?.into_owned(alloc)
 }
 
-// A name as text, where there is one.
+// A name as text, if there is one.
 pub(crate) fn text_of_name(
     alloc: Global,
     name: Option<&RawString>,
@@ -67,7 +67,8 @@ fn decorated_name_at<'a>(
     }
 }
 
-// The decorated name that a procedure goes by in place of its own, where it does.
+// The decorated name that replaces a procedure's own, if there is one: for a procedure without a type, the decorated
+// public symbol at its start.
 pub(crate) fn decorated_name_instead<'a>(
     functions: &GlobalFunctionTable<'a>,
     procedure: ProcedureSymbolFunction<'_>,

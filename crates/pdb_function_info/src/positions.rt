@@ -1,4 +1,4 @@
-//! Where entries stand in a list, by key: hints are tried first, and a map after them.
+//! `PositionTable`: positions of entries in a list, by key. Hints are tried before a map is searched.
 
 use crate::hints::HintTable;
 use crate::name_keys::HintKey;
@@ -7,9 +7,8 @@ use std::collections::BTreeMap;
 
 // A position table: positions in a list, by key.
 //
-// Hints are tried first, by a number in a module; whoever tries one looks whether what stands there is meant, and
-// else looks the position up in a map. So what is asked for again and again is found at once, and no choice of keys
-// makes that slower than in the map.
+// Hints are tried first, by a number in a module. The caller checks whether a hint leads to the right entry. If not,
+// the map is searched. Repeated lookups are therefore fast, and no choice of keys makes them slower than the map.
 #[derive(Drop)]
 pub(crate) struct PositionTable<K: Ord + Drop> {
     alloc: Global,
@@ -19,7 +18,7 @@ pub(crate) struct PositionTable<K: Ord + Drop> {
 }
 
 impl<K: Ord + Drop> PositionTable<K> {
-    // Nothing yet. It takes no memory.
+    // An empty table. It takes no memory.
     pub(crate) fn new(alloc: Global) -> Self {
         PositionTable {
             alloc,
@@ -28,7 +27,7 @@ impl<K: Ord + Drop> PositionTable<K> {
         }
     }
 
-    // Positions at which an entry with this hint may stand.
+    // The positions at which an entry with this hint key may be.
     pub(crate) fn hints(&self, hint_key: HintKey) -> &[Option<u32>] {
         match self.hints.get(hint_key.module_index) {
             Some(hints) => hints.near(hint_key.number),
@@ -36,21 +35,21 @@ impl<K: Ord + Drop> PositionTable<K> {
         }
     }
 
-    // Has a hint lead to a position from now on.
+    // Stores a hint for a position.
     fn hint(&mut self, hint_key: HintKey, position: usize) {
         if let Some(hints) = self.hints.get_mut(hint_key.module_index) {
             hints.put(hint_key.number, position);
         }
     }
 
-    // The position of a key, if there is one. A hint leads there from now on.
+    // The position of a key, if there is one. Stores a hint for it.
     pub(crate) fn find(&mut self, key: &K, hint_key: HintKey) -> Option<usize> {
         let position = *self.positions.get(key)?;
         self.hint(hint_key, position);
         Some(position)
     }
 
-    // Makes room for one hint more of a module.
+    // Makes room for one more hint of a module.
     fn make_room(&mut self, module_index: usize) -> Result<(), AllocError> {
         for _ in self.hints.len()..module_index.saturating_add(1) {
             self.hints.push(HintTable::new(self.alloc))?;
@@ -61,7 +60,7 @@ impl<K: Ord + Drop> PositionTable<K> {
         }
     }
 
-    // Has a key lead to the position at the end of a list. A hint leads there from now on.
+    // Stores the position of a new entry's key, and a hint for it.
     pub(crate) fn push(
         &mut self,
         key: K,

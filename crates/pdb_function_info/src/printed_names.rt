@@ -1,4 +1,4 @@
-//! Names as a formatter prints them, and none where they can't be printed.
+//! Prints names with a formatter. A name that can't be printed is `None`.
 
 ghost use Rattle.std.specs.Prelude.{◌≡◌, ◌≢◌, None, option_map, string_bytes, OnOk, MatchResult};
 ghost use Rattle.pdb_errors.specs.declared.error.Error.TheVariants.{OutOfMemory};
@@ -11,7 +11,7 @@ use pdb_errors::{Error, Result};
 use pdb_records::{IdIndex, ModuleProvider, TypeIndex};
 use pdb_type_printer::TypeFormatter;
 
-// No text, where there is an error in its place. Answers `OutOfMemory` where memory runs out.
+// `None` in place of an error. `OutOfMemory` is passed on.
 fn no_text_for(error: Error) -> Result<Option<String>>
     ensures { MatchResult result
         (λ text. (text ≡ None) × (error ≢ OutOfMemory))
@@ -21,7 +21,7 @@ fn no_text_for(error: Error) -> Result<Option<String>>
     Ok(None)
 }
 
-// The signature of a function, if it can be printed. Answers `OutOfMemory` where memory runs out.
+// The signature of a function, if it can be printed. `OutOfMemory` if memory runs out.
 pub(crate) fn signature_of<P: ModuleProvider>(
     formatter: &mut TypeFormatter<'_, P>,
     name: &str,
@@ -45,8 +45,8 @@ pub(crate) fn signature_of<P: ModuleProvider>(
     }
 }
 
-// The name of a function whose body was inlined, by its id as the module at this module index writes it, if it
-// can be printed. Answers `OutOfMemory` where memory runs out.
+// The name of an inlined function, if it can be printed. Its id is one that the module at this module index uses.
+// `OutOfMemory` if memory runs out.
 pub(crate) fn name_of_id<P: ModuleProvider>(
     formatter: &mut TypeFormatter<'_, P>,
     module_index: usize,

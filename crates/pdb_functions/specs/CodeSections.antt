@@ -5,11 +5,11 @@ use Rattle.pdb_records.specs.Addresses.{numbered_section}
 use Rattle.pdb_records.specs.declared.addresses.ImageSectionHeader.{ImageSectionHeader}
 use Rattle.pdb_records.specs.declared.addresses.PdbInternalSectionOffset.{PdbInternalSectionOffset}
 
--- there is a section of this number, and it holds code
+-- whether there is a section with this number, and it holds code
 abbrev pub is_executable : List ImageSectionHeader → ℕ → Bool
 is_executable sections number = option_map_or (λ section. section.execute) (numbered_section number sections) false
 
--- the ends of the sections that hold code, where sections are numbered from here on, at most to 65535
+-- the ends of the sections that hold code; sections are numbered from `number` on, at most to 65535
 abbrev pub section_ends_from : ℕ → List ImageSectionHeader → List PdbInternalSectionOffset
 section_ends_from number [] = []
 section_ends_from number (section ∷ sections) =

@@ -1,4 +1,4 @@
--- The functions that the whole program's symbols show.
+-- The functions from the global symbols.
 use Rattle.std.specs.Prelude.{ℕ, List, ◌++◌, Option, Some, None, map, if◌then◌else◌}
 use Rattle.std.specs.Option.{option_copied}
 use Rattle.std.specs.List.{filter_map}
@@ -14,12 +14,12 @@ use Rattle.pdb_functions.specs.CodeSections.{is_executable, section_ends}
 use Rattle.pdb_functions.specs.MergedContributions.{contribution_starts}
 use Rattle.pdb_functions.specs.Starts.{first_of_each_start}
 
--- where a function starts, and its name where it has one
+-- the start of a function, and its name if it has one
 pub record GlobalFunction : Type 0 where
   pub start : PdbInternalSectionOffset
   pub name : Option (List ℕ)
 
--- the same, as the code holds it
+-- the model of the code's `GlobalFunction`
 abbrev pub global_function : code.GlobalFunction → GlobalFunction
 global_function f = record { start = f.start_offset; name = option_copied f.name }
 
@@ -31,20 +31,21 @@ public_data sections (Some (Public symbol)) =
     else None
 public_data sections other = None
 
--- the function that a symbol shows, where it is a public one
+-- the function of a symbol, if it is a public one
 abbrev pub public_function : List ImageSectionHeader → Symbol → Option GlobalFunction
 public_function sections symbol = if is_public_kind symbol.raw_kind then public_data sections symbol.content else None
 
--- a start with no name
+-- a function start without a name
 abbrev pub placeholder : PdbInternalSectionOffset → GlobalFunction
 placeholder start = record { start = start; name = None }
 
--- all starts that are shown: public symbols first, then contributions that count, then ends of sections
+-- all function starts: those of public symbols first, then of contributions that count, then the ends of sections
 abbrev pub listed_functions : List ImageSectionHeader → List Symbol → DebugInformation → List GlobalFunction
 listed_functions sections symbols debug =
     filter_map (public_function sections) symbols
     ++ map placeholder (contribution_starts sections debug.section_contributions.items ++ section_ends sections)
 
--- by section and start, of each start the first that is shown: the first public symbol, else one with no name
+-- the functions sorted by section and start, with the first of each start: the first public symbol, otherwise one
+-- without a name
 abbrev pub global_functions : List ImageSectionHeader → List Symbol → DebugInformation → List GlobalFunction
 global_functions sections symbols debug = first_of_each_start (λ f. f.start) (listed_functions sections symbols debug)

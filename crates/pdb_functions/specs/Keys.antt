@@ -1,4 +1,4 @@
--- Section offsets as single numbers, by which tables of segments are searched.
+-- Section offsets as single numbers, the keys of tables of segments.
 use Rattle.std.specs.Prelude.{◌≡◌, ℕ, ◌+◌, ◌*◌, ◌^◌, ◌<◌, Bool}
 use Rattle.pdb_records.specs.declared.addresses.PdbInternalSectionOffset.{PdbInternalSectionOffset}
 use Rattle.pdb_tables.specs.RangeSet.{is_within}

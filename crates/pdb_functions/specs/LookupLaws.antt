@@ -1,4 +1,4 @@
--- What follows from the definitions, in words of its own.
+-- Laws on lookups, in words of their own.
 use Rattle.std.specs.Prelude.{◌≡◌, ◌≢◌, ◌<◌, ◌≤◌, ℕ, Bool, true, false, List, [], ◌∷◌, ⊤, ◌&&◌, ◌==◌, nat_le, nat_lt}
 use Rattle.std.specs.Prelude.{◌⊎◌, Option, Some, None, find}
 use Rattle.std.specs.List.{AllByRecursion, list_any}
@@ -10,27 +10,27 @@ use Rattle.pdb_functions.specs.declared.merged_contributions.ModuleSectionContri
 use Rattle.pdb_functions.specs.MergedContributions.{is_same_module}
 use Rattle.pdb_functions.specs.Procedures.{ModuleProcedure}
 
--- it has a byte
+-- a contribution has at least one byte
 abbrev pub IsFilled : ModuleSectionContribution → Type 0
 IsFilled m = m.start_offset < m.end_offset
 
--- one lies before another: in a section before, or wholly below it in one section
+-- one contribution is before another: in an earlier section, or completely below it in the same section
 abbrev pub LiesBefore : ModuleSectionContribution → ModuleSectionContribution → Type 0
 LiesBefore a b =
     (a.section_index < b.section_index) ⊎ ((a.section_index ≡ b.section_index) × (a.end_offset ≤ b.start_offset))
 
--- each has a byte and lies before all that follow
+-- each contribution has a byte and is before all that follow
 abbrev pub AreApart : List ModuleSectionContribution → Type 0
 AreApart [] = ⊤
 AreApart (m ∷ ms) = IsFilled m × AllByRecursion (LiesBefore m) ms × AreApart ms
 
--- a claim lies in an interval: it is of its module and section, begins no earlier and ends no later
+-- whether a claim is within an interval: it has the interval's module and section, begins no earlier and ends no later
 abbrev pub lies_in : ModuleSectionContribution → ModuleSectionContribution → Bool
 lies_in claim interval =
     is_same_module claim interval
     && nat_le interval.start_offset claim.start_offset && nat_le claim.end_offset interval.end_offset
 
--- a claim lies in one of the intervals
+-- a claim is within one of the intervals
 abbrev pub LiesInOneOf : List ModuleSectionContribution → ModuleSectionContribution → Type 0
 LiesInOneOf intervals claim = list_any (lies_in claim) intervals ≡ true
 
@@ -50,20 +50,20 @@ IsApartFrom interval claim =
     interval.section_index ≡ claim.section_index → interval.module_index ≢ claim.module_index
     → (claim.end_offset ≤ interval.start_offset) ⊎ (interval.end_offset ≤ claim.start_offset)
 
--- two neighbours are never of one module and section: between two such stands one of another module
+-- no two neighbours have one module and section: between two such intervals there is one of another module
 abbrev pub NeighboursDiffer : List ModuleSectionContribution → Type 0
 NeighboursDiffer [] = ⊤
 NeighboursDiffer (interval ∷ []) = ⊤
 NeighboursDiffer (interval ∷ next ∷ intervals) =
     (is_same_module interval next ≡ false) × NeighboursDiffer (next ∷ intervals)
 
--- one of the claims is of this section and module, and has this byte
+-- one of the claims has this section and module, and contains this byte
 abbrev pub HasByteOf : List ModuleSectionContribution → ℕ → ℕ → ℕ → Type 0
 HasByteOf claims section module_index offset =
     list_any (λ claim. (claim.section_index == section) && (claim.module_index == module_index)
     && nat_le claim.start_offset offset && nat_lt offset claim.end_offset) claims ≡ true
 
--- an error shows a byte that contributions of two modules claim
+-- an error names a byte that contributions of two modules claim
 abbrev pub IsOverlap : List ModuleSectionContribution → Error → Type 0
 IsOverlap claims (OverlappingSectionContributions section before module_index) =
     (before ≢ module_index)

@@ -23,7 +23,7 @@ pub record ModuleProcedure : Type 0 where
   pub end_symbol_index : SymbolIndex
   pub type_index : TypeIndex
 
--- the same, as the code holds it
+-- the model of `ProcedureSymbolFunction`
 abbrev pub module_procedure : ProcedureSymbolFunction → ModuleProcedure
 module_procedure p = record {
   offset = p.offset;
@@ -34,12 +34,12 @@ module_procedure p = record {
   type_index = p.type_index;
 }
 
--- what is there, where it isn't empty
+-- a procedure, unless it is empty
 abbrev pub unless_empty : ModuleProcedure → Option ModuleProcedure
 unless_empty procedure = if nat_lt 0 procedure.len then Some procedure else None
 
--- what a symbol holds, as a procedure after the last one that counts: code apart from its body takes the name and the
--- type of that one, where it starts at the parent's section offset
+-- the procedure of a symbol, after the last one that counts. Separated code gets the name and the type of that one if
+-- it starts at the parent's section offset
 abbrev pub procedure_data : ℕ → Option ModuleProcedure → Option SymbolData → Option ModuleProcedure
 procedure_data at last (Some (Procedure s)) =
     unless_empty (record {
@@ -72,34 +72,34 @@ procedure_data at last (Some (Thunk s)) =
     })
 procedure_data at last other = None
 
--- the procedure that a symbol at a position shows, after the last one that counts
+-- the procedure of a symbol at a position, after the last one that counts
 abbrev pub procedure_at : ℕ → Option ModuleProcedure → Symbol → Option ModuleProcedure
 procedure_at at last symbol = if is_code_kind symbol.raw_kind then procedure_data at last symbol.content else None
 
--- the last procedure that counts, after one that may be there
+-- the last procedure that counts: the new one if there is one, otherwise the one before
 abbrev pub last_counted : Option ModuleProcedure → Option ModuleProcedure → Option ModuleProcedure
 last_counted last None = last
 last_counted last (Some procedure) = Some procedure
 
--- the procedures that symbols from a position on show, in reading order, after the last one that counts
+-- the procedures of symbols from a position on, in reading order, after the last one that counts
 abbrev pub procedures_from : ℕ → Option ModuleProcedure → List Symbol → List ModuleProcedure
 procedures_from at last [] = []
 procedures_from at last (symbol ∷ symbols) =
     option_to_list (procedure_at at last symbol)
     ++ procedures_from (at + 1) (last_counted last (procedure_at at last symbol)) symbols
 
--- the procedures that symbols show, by section and start, of each start the first
+-- the procedures of symbols, sorted by section and start, with the first of each start
 abbrev pub symbol_procedures : List Symbol → List ModuleProcedure
 symbol_procedures symbols = first_of_each_start (λ p. p.offset) (procedures_from 0 None symbols)
 
--- the procedures of a module's records; a fault in its symbols leaves none
+-- the procedures of a module's records; none if its symbols have a fault
 abbrev pub info_procedures : ModuleInfo → List ModuleProcedure
 info_procedures info = procedures_before info.symbols.fault info where
   procedures_before : Option StreamError → ModuleInfo → List ModuleProcedure
   procedures_before None info = symbol_procedures info.symbols.items
   procedures_before (Some fault) info = []
 
--- the procedures of what a provider answers
+-- the procedures in a provider's answer
 abbrev pub provided_procedures : Result (Option ModuleInfo) StreamError → List ModuleProcedure
 provided_procedures (Ok (Some info)) = info_procedures info
 provided_procedures (Ok None) = []

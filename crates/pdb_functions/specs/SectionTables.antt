@@ -1,4 +1,4 @@
--- Sections as values of addresses.
+-- Tables from addresses to sections.
 use Rattle.std.specs.Prelude.{ℕ, ◌+◌, ◌-◌, List, [], ◌∷◌, Option}
 use Rattle.pdb_records.specs.Addresses.{numbered}
 use Rattle.pdb_records.specs.declared.addresses.PdbInternalSectionOffset.{PdbInternalSectionOffset}
@@ -6,11 +6,11 @@ use Rattle.pdb_records.specs.declared.addresses.AddressRange.{AddressRange}
 use Rattle.pdb_tables.specs.declared.segment.Segment.{Segment}
 use Rattle.pdb_functions.specs.declared.section_table.SectionStart.{SectionStart}
 
--- the section offset of an address in a section, which is numbered from 1 by its position in the list
+-- the section offset of an address in a section; the section's number is its position in the list plus 1
 abbrev pub section_offset_in : ℕ → SectionStart → Option PdbInternalSectionOffset
 section_offset_in address section = numbered (section.index + 1) (address - section.start)
 
--- the addresses of each section, of sections that stand in the list from this position on
+-- the address ranges of sections; `index` is the position of the first in the list
 abbrev pub section_segments : ℕ → List AddressRange → List (Segment SectionStart)
 section_segments index [] = []
 section_segments index (range ∷ ranges) =

@@ -1,4 +1,4 @@
-//! Sections that hold code, and where they end.
+//! Finds executable sections, and where they end.
 
 ghost use Rattle.std.specs.Prelude.{◌≡◌, IfOk};
 ghost use Rattle.pdb_functions.specs.CodeSections.{is_executable, section_ends};
@@ -6,7 +6,7 @@ ghost use Rattle.pdb_functions.specs.CodeSections.{is_executable, section_ends};
 use pdb_records::{ImageSectionHeader, PdbInternalSectionOffset};
 use std::alloc::{AllocError, Global};
 
-// Whether there is a section of this number, and it holds code.
+// Whether the section with this number exists and is executable.
 pub(crate) fn is_executable_section(sections: &[ImageSectionHeader], section_index: u16) -> bool
     ensures { result ≡ is_executable sections.now section_index }
 {
@@ -18,7 +18,7 @@ pub(crate) fn is_executable_section(sections: &[ImageSectionHeader], section_ind
     }
 }
 
-// The ends of the sections that hold code. They mark where the last function of a section ends.
+// The ends of the executable sections. The last function of a section ends there.
 pub(crate) fn executable_section_ends(
     alloc: Global,
     sections: &[ImageSectionHeader],

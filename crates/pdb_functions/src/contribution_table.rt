@@ -1,4 +1,4 @@
-//! A table of merged contributions: which of them lies over a section offset.
+//! `ContributionTable`: finds the merged contribution that contains a section offset.
 
 ghost use Rattle.std.specs.Prelude.{◌≡◌, ◌+◌, ◌*◌, ◌≤◌, find, length, IfOk};
 ghost use Rattle.pdb_tables.specs.Probes.{digits};
@@ -31,14 +31,14 @@ impl Span for ModuleSectionContribution {
     }
 }
 
-/// A list of contributions, with a table of the position of the first one that lies over each section offset.
+/// A list of contributions, with a table of the first one that contains each section offset.
 #[derive(Drop)]
 pub struct ContributionTable {
     last_first: Vec<ModuleSectionContribution>,
     segments: Segments<usize>,
 }
 
-// Clauses see a table as the list of the contributions.
+// Contracts see a table as the list of contributions.
 impl Model for ContributionTable {
     ghost use Rattle.std.specs.Prelude.{◌≡◌, ◌*◌, ◌^◌, ◌<◌, ◌≤◌, List, find, length, reverse};
     ghost use Rattle.std.specs.Prelude.{slice_get, option_and_then};
@@ -61,8 +61,8 @@ impl Model for ContributionTable {
 }
 
 impl ContributionTable {
-    /// The table of a list of contributions, in whatever order they stand. Its time grows with n log n for n of them.
-    /// Answers `AllocError` where memory runs out.
+    /// Makes a table of contributions, in any order. Takes O(n log n) time for n of them. `AllocError` if memory runs
+    /// out.
     pub fn new(
         alloc: Global,
         contributions: Vec<ModuleSectionContribution>,
@@ -78,10 +78,10 @@ impl ContributionTable {
         })
     }
 
-    /// The first contribution of the list over a section offset.
+    /// The first contribution of the list that contains a section offset.
     ///
-    /// It is found by a binary search. Each entry of the table that is looked at is counted in `probes`: at most one
-    /// more than the number of contributions has binary digits.
+    /// It is found by a binary search. `probes` counts the entries of the table that are compared: at most one more
+    /// than the number of contributions has binary digits.
     pub fn contribution_over(
         &self,
         section_offset: PdbInternalSectionOffset,

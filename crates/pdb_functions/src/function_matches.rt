@@ -1,4 +1,4 @@
-//! What is found over a section offset: a procedure of a module, or else a global function.
+//! `FunctionMatch`: the function at a section offset, which is a procedure of a module or else a global function.
 
 ghost use Rattle.std.specs.Prelude.{◌≡◌, option_map};
 ghost use Rattle.pdb_functions.specs.GlobalFunctions.{global_function};
@@ -9,14 +9,14 @@ use crate::merged_contributions::ModuleSectionContribution;
 use crate::procedures::ProcedureSymbolFunction;
 use pdb_records::PdbInternalSectionOffset;
 
-/// What lies over a section offset, with the module index of the module that it belongs to.
+/// The function at a section offset, with the module index of its module.
 #[derive(Clone, Copy)]
 pub enum FunctionMatch<'a> {
     /// A global function.
     Global {
         module_index: usize,
         function: GlobalFunction<'a>,
-        /// The position of the next one in their table.
+        /// The position of the next global function in the table.
         next_place: usize,
     },
     /// A procedure of the module.
@@ -27,7 +27,7 @@ pub enum FunctionMatch<'a> {
 }
 
 impl FunctionMatch<'_> {
-    /// The module index of the module that the function was found in.
+    /// The module index of the function's module.
     pub fn module_index(self) -> usize
         ensures { result ≡ function_module (function_match self.entry) }
     {
@@ -37,7 +37,7 @@ impl FunctionMatch<'_> {
         }
     }
 
-    /// Where the function starts.
+    /// The start of the function.
     pub fn start(self) -> PdbInternalSectionOffset
         ensures { result ≡ function_start (function_match self.entry) }
     {
@@ -48,7 +48,7 @@ impl FunctionMatch<'_> {
     }
 }
 
-/// A global function, where it doesn't start below the contribution, with the place of the next one.
+/// A global function, unless it starts before the contribution. `next_place` is the position of the next one.
 pub fn global_function_in(
     contribution: ModuleSectionContribution,
     function: Option<GlobalFunction<'_>>,

@@ -1,4 +1,4 @@
-//! A table of global functions by start: the one over a section offset, the one at it, and the next.
+//! `GlobalFunctionTable`: global functions sorted by start, to find the one at a section offset and the next one.
 
 ghost use Rattle.std.specs.Prelude.{◌≡◌, ◌==◌, ◌+◌, ◌≤◌, None, not, map, option_map, find, length};
 ghost use Rattle.pdb_records.specs.Addresses.{is_same_section_offset};
@@ -15,13 +15,13 @@ use pdb_records::PdbInternalSectionOffset;
 use pdb_tables::{Neighbours, Probes, neighbours_at, neighbours_of};
 use std::marker::Model;
 
-/// Global functions by section and start, each start once.
+/// Global functions sorted by section and start, each start once.
 #[derive(Drop)]
 pub struct GlobalFunctionTable<'a> {
     functions: Vec<GlobalFunction<'a>>,
 }
 
-// Clauses see a table as the list of the functions.
+// Contracts see a table as the list of functions.
 impl<'a> Model for GlobalFunctionTable<'a> {
     ghost use Rattle.std.specs.Prelude.{List, map};
     ghost use Rattle.pdb_functions.specs.GlobalFunctions.{GlobalFunction, global_function};
@@ -35,7 +35,7 @@ impl<'a> Model for GlobalFunctionTable<'a> {
 }
 
 impl<'a> GlobalFunctionTable<'a> {
-    // The table of functions that stand by section and start, each start once.
+    // A table of functions that are sorted by section and start, each start once.
     pub(crate) fn new(functions: Vec<GlobalFunction<'a>>) -> Self
         requires { StartsAscend (λ f. f.start_offset) functions.items }
         ensures { result ≡ map global_function functions.entry.items }
@@ -57,8 +57,8 @@ impl<'a> GlobalFunctionTable<'a> {
         self.functions.len()
     }
 
-    // The functions next to a section offset: the last that starts there or ahead of it, and the first after it. Each
-    // function that is looked at counts.
+    // The neighbours of a section offset: the last function that starts at or before it, and the first one after it.
+    // `probes` counts the functions that are compared.
     fn neighbours(
         &self,
         section_offset: PdbInternalSectionOffset,
@@ -74,11 +74,11 @@ impl<'a> GlobalFunctionTable<'a> {
         neighbours_of(&self.functions, section_offset, probes)
     }
 
-    /// The last function that starts at or below a section offset in its section. `next_place` is where the next one
-    /// stands.
+    /// The last function that starts at or before a section offset in its section. `next_place` gets the position of
+    /// the next one.
     ///
-    /// It is found by a binary search. Each function that is looked at is counted in `probes`: at most as many as their
-    /// number has binary digits.
+    /// It is found by a binary search. `probes` counts the functions that are compared: at most as many as their number
+    /// has binary digits.
     pub fn function_over(
         &self,
         section_offset: PdbInternalSectionOffset,
@@ -94,8 +94,8 @@ impl<'a> GlobalFunctionTable<'a> {
         in_section(next_to.up_to, section_offset.section)
     }
 
-    /// The function that starts at a section offset. It is found by a binary search, whose looks count as those of
-    /// [`function_over`](Self::function_over) do.
+    /// The function that starts at a section offset. It is found by a binary search, with the same bound on `probes` as
+    /// [`function_over`](Self::function_over).
     pub fn function_at(
         &self,
         start: PdbInternalSectionOffset,
@@ -108,9 +108,9 @@ impl<'a> GlobalFunctionTable<'a> {
         starting_at(next_to.up_to, start)
     }
 
-    /// The next function of a section after an offset. It stands at `next_place` where the one ahead of that place
-    /// starts at the offset; else it is found by a binary search. Each function that is looked at is counted in
-    /// `probes`: at most two more than their number has binary digits.
+    /// The next function of a section after an offset. If the function before `next_place` starts at the offset, it is
+    /// the one at `next_place`; otherwise it is found by a binary search. `probes` counts the functions that are
+    /// compared: at most two more than their number has binary digits.
     pub fn next_function(
         &self,
         section_offset: PdbInternalSectionOffset,
@@ -139,7 +139,7 @@ fn in_section(function: Option<GlobalFunction<'_>>, section: u16) -> Option<Glob
     }
 }
 
-// A function, where it starts at a section offset.
+// A function, if it starts at a section offset.
 fn starting_at(
     function: Option<GlobalFunction<'_>>,
     start: PdbInternalSectionOffset,

@@ -1,4 +1,4 @@
-//! Global functions: what starts at public symbols, at contributions and at the ends of sections.
+//! Collects global functions: starts at public symbols, at contributions and at the ends of sections.
 
 ghost use Rattle.std.specs.Prelude.{◌≡◌, ◌++◌, map, option_map, IfOk, OnOk};
 ghost use Rattle.std.specs.List.{filter_map};
@@ -14,12 +14,12 @@ use pdb_records::{
 use pdb_tables::{Keyed, first_of_each_key};
 use std::alloc::{AllocError, Global};
 
-/// Where a function starts, as the whole program's symbols and contributions show it.
+/// A start of a function, from a public symbol, a contribution or the end of a section.
 #[derive(Clone, Copy)]
 pub struct GlobalFunction<'a> {
-    /// Where it starts.
+    /// The start of the function.
     pub start_offset: PdbInternalSectionOffset,
-    /// The public symbol's name. A placeholder has none.
+    /// The public symbol's name. Other starts, which are placeholders, have none.
     pub name: Option<&'a RawString>,
 }
 
@@ -33,7 +33,7 @@ impl Keyed for GlobalFunction<'_> {
     }
 }
 
-// The function that a symbol shows, where it is a public one in a section that holds code.
+// The function of a symbol, if it is a public symbol in an executable section.
 fn public_symbol_function<'a>(
     sections: &[ImageSectionHeader],
     symbol: &'a Symbol,
@@ -55,7 +55,7 @@ fn public_symbol_function<'a>(
     }
 }
 
-// The functions that public symbols show, in reading order.
+// The functions of public symbols, in file order.
 fn public_symbol_functions<'a>(
     alloc: Global,
     sections: &[ImageSectionHeader],
@@ -72,7 +72,7 @@ fn public_symbol_functions<'a>(
     Ok(functions)
 }
 
-// Adds a start with no name for each section offset.
+// Adds a start without a name for each section offset.
 fn add_placeholders(
     functions: &mut Vec<GlobalFunction<'_>>,
     starts: &[PdbInternalSectionOffset],
@@ -89,11 +89,10 @@ fn add_placeholders(
     Ok(())
 }
 
-/// The functions that the whole program's symbols and contributions show, by section and start. Of
-/// each start the first public symbol stays, else one placeholder. The end of each section that holds
-/// code is there too, as where its last function ends.
+/// Collects the global functions, sorted by section and start. At each start the first public symbol is kept, or else
+/// one placeholder. The ends of executable sections are included, because the last function of a section ends there.
 ///
-/// `contribution_starts` is where the contributions that count start.
+/// `contribution_starts` has the starts of the non-empty contributions in executable sections.
 pub fn compute_global_functions<'a>(
     alloc: Global,
     sections: &[ImageSectionHeader],

@@ -1,7 +1,7 @@
-//! Which functions a program has, and which of them lies over a section offset.
+//! Lists the functions of a program, and finds the one that contains a section offset.
 //!
-//! Sections, contributions of modules, public symbols and the procedures of modules come from records;
-//! the tables that are made of them hold what a plain scan of the records would find.
+//! The tables are made from the records' sections, contributions, public symbols and procedures. A search in them finds
+//! the same as a plain scan of the records.
 #![tactic(auto)]
 
 mod code_sections;

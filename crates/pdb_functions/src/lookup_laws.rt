@@ -1,6 +1,6 @@
-//! What follows from the definitions that the contracts of this crate cite: laws in words of their own.
+//! Laws that follow from the definitions in this crate's contracts.
 //!
-//! Each function here does nothing. Its contract is a law, for all records, and the check proves it.
+//! Each function here does nothing. Its contract states a law, which the checker proves for all records.
 
 ghost use Rattle.std.specs.Prelude.{◌≡◌, ◌^◌, List, [], ◌∷◌, ◌++◌, Ok, Err, Option, Some, None, find, nat_le};
 ghost use Rattle.std.specs.Prelude.{length, option_to_list};
@@ -32,19 +32,19 @@ ghost use Rattle.pdb_functions.specs.Starts.{StartsAscend};
 
 use crate::merged_contributions::ModuleSectionContribution;
 
-/// Two merged contributions are equal exactly where neither stands before the other.
+/// Two merged contributions are equal exactly if neither is ordered before the other.
 pub fn order_of_contributions_agrees_with_equality()
     ensures { OrderAgrees ⟦<ModuleSectionContribution as Ord>⟧.cmp ⟦<ModuleSectionContribution as PartialEq>⟧.eq }
 {}
 
-/// Merged contributions each have a byte, stand by section and start, and share no byte.
+/// Merged contributions aren't empty, are sorted by section and start, and don't overlap.
 pub fn merged_contributions_are_apart()
     ensures { (sections : List ImageSectionHeader) (debug : DebugInformation) (table : List ModuleSectionContribution)
         → merged_contributions sections debug ≡ Ok table → AreApart table }
 {}
 
-/// Each contribution that counts lies in a merged one of its module and section; and each merged one
-/// begins where one of those begins, and ends where one of those ends.
+/// Each contribution that counts is inside a merged one of its module and section. Each merged one begins where one of
+/// those begins, and ends where one of those ends.
 pub fn merged_contributions_hold_all()
     ensures all { (sections : List ImageSectionHeader) (debug : DebugInformation)
         (table : List ModuleSectionContribution) → merged_contributions sections debug ≡ Ok table
@@ -57,8 +57,8 @@ pub fn merged_contributions_hold_all()
         → AllByRecursion (EndsWithOneOf (claims sections debug.section_contributions.items)) table }
 {}
 
-/// No byte of a merged contribution belongs to a contribution of another module, gaps included; and
-/// between two merged ones of one module and section there stands one of another.
+/// No byte of a merged contribution, gaps included, belongs to a contribution of another module. Between two merged
+/// ones of the same module and section there is one of another module.
 pub fn merged_contributions_hold_no_other_module()
     ensures apart { (sections : List ImageSectionHeader) (debug : DebugInformation)
         (table : List ModuleSectionContribution) → merged_contributions sections debug ≡ Ok table
@@ -69,9 +69,8 @@ pub fn merged_contributions_hold_no_other_module()
         → NeighboursDiffer table }
 {}
 
-/// Which refusal comes first: that of the first end past 32 bits in reading order, then that of the
-/// fault after the contributions. Where neither is there, contributions are refused only for a byte
-/// that two modules claim.
+/// Which refusal comes first: that of the first end of more than 32 bits in file order, then that of the fault after
+/// the contributions. If neither exists, contributions are refused only for a byte that two modules claim.
 pub fn contributions_are_refused_for()
     ensures end { (sections : List ImageSectionHeader) (debug : DebugInformation) (claim : ModuleSectionContribution)
         → find (λ c. nat_le (2 ^ 32) c.end_offset) (claims sections debug.section_contributions.items) ≡ Some claim
@@ -87,12 +86,11 @@ pub fn contributions_are_refused_for()
         → IsOverlap (claims sections debug.section_contributions.items) error }
 {}
 
-/// Contributions that can be joined in reading order leave their intervals unchanged: where no module comes back
-/// in a section, and in each of its intervals neither starts nor ends fall, joining neighbours in reading
-/// order gives just the merged ones.
+/// If no module occurs again in a section after another one, and in each of its intervals starts and ends never
+/// decrease, joining neighbours in file order gives exactly the merged contributions.
 ///
-/// Of a module that comes back nothing is said: contributions 0..0x10 of a module, then one of another
-/// section, then 0x30..0x40 of that module are two intervals in reading order, and one merged contribution.
+/// The law doesn't apply to a module that occurs again. For example, 0..0x10 of a module, then a contribution of
+/// another section, then 0x30..0x40 of that module are two intervals in file order, but one merged contribution.
 pub fn contributions_in_reading_order_stay()
     ensures { (sections : List ImageSectionHeader) (debug : DebugInformation) (table : List ModuleSectionContribution)
         → merged_in_reading_order sections debug ≡ Ok table
@@ -101,9 +99,8 @@ pub fn contributions_in_reading_order_stay()
         → merged_contributions sections debug ≡ Ok table }
 {}
 
-/// Global functions stand by section and start, each start once. At each start the first that is shown
-/// stays. Public symbols are shown before all starts with no name, so that is the first public symbol
-/// of the start where there is one.
+/// Global functions are sorted by section and start, each start once. At each start the first one is kept. Public
+/// symbols come before all starts without a name, so that is the first public symbol of the start if there is one.
 pub fn first_global_function_of_each_start_is_kept()
     ensures ascend { (sections : List ImageSectionHeader) (symbols : List Symbol) (debug : DebugInformation)
         → StartsAscend (λ f. f.start) (global_functions sections symbols debug) }
@@ -113,10 +110,9 @@ pub fn first_global_function_of_each_start_is_kept()
         ≡ global_at section_offset (listed_functions sections symbols debug) }
 {}
 
-/// Procedures of a module stand by section and start, each start once. At each start the first that
-/// symbols show, in reading order, stays. A symbol looks at the last procedure that those before it
-/// show, whose name and type code apart from its body takes, whether or not that one stays. A fault
-/// after the symbols leaves none.
+/// Procedures of a module are sorted by section and start, each start once. At each start the first one in file order
+/// is kept. Separated code takes its name and type from the last procedure before it, whether or not that one is kept.
+/// If the symbols end early, there are none.
 pub fn first_procedure_of_each_start_is_kept()
     ensures ascend { (symbols : List Symbol) → StartsAscend (λ p. p.offset) (symbol_procedures symbols) }
     ensures first { (symbols : List Symbol) (section_offset : PdbInternalSectionOffset)
@@ -130,8 +126,8 @@ pub fn first_procedure_of_each_start_is_kept()
         → info.symbols.fault ≡ Some fault → info_procedures info ≡ [] }
 {}
 
-/// The procedure that is picked for a section offset covers it. No other over it has a greater start, and
-/// of those with an equal start it is the first. None is picked only where none covers the section offset.
+/// The procedure that is picked for a section offset contains it. No other procedure that contains it has a greater
+/// start, and of equal starts it is the first. None is picked only if none contains the section offset.
 pub fn pick_covers_with_greatest_start()
     ensures { (section_offset : PdbInternalSectionOffset) (procedures : List ModuleProcedure)
         → IsPicked (procedure_covers section_offset) (λ p. p.offset.offset) procedures

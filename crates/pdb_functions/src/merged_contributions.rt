@@ -1,4 +1,4 @@
-//! Section contributions: which count, and how those of one module are merged, or refused where they overlap.
+//! Merges the section contributions of each module, and refuses them if those of two modules overlap.
 
 ghost use Rattle.std.specs.Prelude.{◌≡◌, ◌≢◌, None, Some, IfOk, OnOk, MatchResult};
 ghost use Rattle.pdb_errors.specs.declared.error.Error.TheVariants.{OutOfMemory};
@@ -16,27 +16,27 @@ use pdb_records::{
 };
 use std::alloc::{AllocError, Global};
 
-/// Bytes of a section that came from one module.
+/// A range of bytes of a section that came from one module.
 #[derive(Debug, Clone, Copy, PartialEq, Eq, PartialOrd, Ord)]
 pub struct ModuleSectionContribution {
     /// The section's number, counted from 1.
     pub section_index: u16,
-    /// Where the bytes start in the section.
+    /// The offset of the first byte in the section.
     pub start_offset: u32,
-    /// Where they end: the offset of the first byte after them.
+    /// The offset just after the last byte.
     pub end_offset: u32,
     /// The module index, in the list of modules.
     pub module_index: usize,
 }
 
-// Whether a contribution counts: it isn't empty, and its section holds code.
+// Whether a contribution counts: it isn't empty, and its section is executable.
 fn counts(sections: &[ImageSectionHeader], contribution: &SectionContribution) -> bool
     ensures { result ≡ is_counted sections.now contribution.now }
 {
     contribution.size > 0 && is_executable_section(sections, contribution.offset.section)
 }
 
-// The bytes that a contribution claims, where their end fits 32 bits.
+// The bytes that a contribution claims. An error if their end doesn't fit 32 bits.
 fn claim_of(contribution: &SectionContribution) -> Result<ModuleSectionContribution>
     ensures refused { Refuses result (refused_end (claimed contribution.now)) }
     ensures answer { IfOk result (λ claim. claim ≡ claimed contribution.now) }
@@ -53,7 +53,7 @@ fn claim_of(contribution: &SectionContribution) -> Result<ModuleSectionContribut
     })
 }
 
-// What the contributions that count claim, in reading order.
+// The bytes that the contributions which count claim, in file order.
 fn claims(
     alloc: Global,
     sections: &[ImageSectionHeader],
@@ -73,7 +73,7 @@ fn claims(
     Ok(claims)
 }
 
-// Puts claims in order.
+// Sorts claims.
 fn sort(claims: &mut Vec<ModuleSectionContribution>) -> Result<(), AllocError>
     ensures { OnOk result (claims.new.items ≡ in_order contribution_before claims.old.items) }
 {
@@ -87,7 +87,7 @@ fn is_same_module(a: ModuleSectionContribution, b: ModuleSectionContribution) ->
     a.section_index == b.section_index && a.module_index == b.module_index
 }
 
-// The intervals of claims in order: neighbours of one module and section are joined.
+// The intervals of sorted claims: neighbours of one module and section are joined.
 fn intervals(
     alloc: Global,
     claims: &[ModuleSectionContribution],
@@ -115,7 +115,7 @@ fn intervals(
     Ok(intervals)
 }
 
-// Refuses intervals of which one begins before the one in front of it ends.
+// Refuses intervals if one begins before the end of the one before it.
 fn check_overlap(intervals: &[ModuleSectionContribution]) -> Result<()>
     ensures { Refuses result (overlap_after None intervals.now) }
 {
@@ -137,7 +137,7 @@ fn check_overlap(intervals: &[ModuleSectionContribution]) -> Result<()>
     Ok(())
 }
 
-// Where the contributions that count start, in reading order.
+// The starts of the contributions that count, in file order.
 fn starts(
     alloc: Global,
     sections: &[ImageSectionHeader],
@@ -154,19 +154,18 @@ fn starts(
     Ok(starts)
 }
 
-/// Which module the bytes of the program came from, by section and start; and where the contributions
-/// that count start, in reading order, before any are joined.
+/// The merged contributions, which say from which module the bytes of the program came, sorted by section and start;
+/// and the starts of the contributions that count, in file order, before any are joined.
 ///
-/// A contribution of no bytes, or in a section that holds no code, does not count. Those that count are
-/// put in order by section, start, end and module. Neighbours of one module and section are then joined,
-/// gaps included, up to the greater end; so the bytes of two modules may take turns in a section.
+/// A contribution that is empty, or not in an executable section, doesn't count. Those that count are sorted by
+/// section, start, end and module. Neighbours of one module and section are then joined, gaps included, up to the
+/// greater end. So the bytes of two modules may alternate in a section.
 ///
 /// # Errors
 ///
-/// [`Error::SectionContributionEndTooLarge`] for the first that counts, in reading order, whose end
-/// doesn't fit 32 bits; else [`Error::PdbError`] for the fault after the list; else
-/// [`Error::OverlappingSectionContributions`] for the first two neighbours, in order, that claim the
-/// same bytes.
+/// [`Error::SectionContributionEndTooLarge`] for the first contribution that counts, in file order, whose end doesn't
+/// fit 32 bits; else [`Error::PdbError`] with the fault after the list; else [`Error::OverlappingSectionContributions`]
+/// for the first two neighbours, in sorted order, that claim the same bytes.
 pub fn compute_section_contributions(
     alloc: Global,
     debug_information: &DebugInformation,

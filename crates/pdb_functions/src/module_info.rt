@@ -1,4 +1,4 @@
-//! The records of a module together with the procedures that its symbols show.
+//! `BasicModuleInfo`: the records of a module, and a table of its procedures.
 
 ghost use Rattle.std.specs.Prelude.{◌≡◌, ◌≢◌, ◌+◌, ◌≤◌, None, Some, map, length, option_map, IfOk, MatchResult};
 ghost use Rattle.pdb_records.specs.declared.error.Error.TheVariants.{Stream};
@@ -16,7 +16,7 @@ use pdb_tables::Probes;
 use std::alloc::Global;
 use std::marker::Model;
 
-/// The records of a module, and the procedures that its symbols show.
+/// The records of a module, and the procedures among its symbols.
 #[derive(Drop)]
 pub struct BasicModuleInfo<'a> {
     module_info: &'a ModuleInfo,
@@ -41,8 +41,8 @@ impl<'a> BasicModuleInfo<'a> {
     ///
     /// # Errors
     ///
-    /// [`Error::PdbError`] where the list of the module's symbols has a fault: what comes after it may
-    /// change which procedures there are.
+    /// [`Error::PdbError`] if the list of the module's symbols ends early, because missing symbols may change which
+    /// procedures there are.
     pub fn try_from_module_info(alloc: Global, module_info: &'a ModuleInfo) -> Result<Self>
         ensures answer { IfOk result (λ b. b ≡ module_info.now) }
         ensures refused { MatchResult result
@@ -60,16 +60,16 @@ impl<'a> BasicModuleInfo<'a> {
         })
     }
 
-    /// The module's procedures, by section and start.
+    /// The module's procedures, sorted by section and start.
     pub fn procedures(&self) -> &[ProcedureSymbolFunction<'a>]
         ensures { map module_procedure result.now ≡ info_procedures self.now }
     {
         self.procedures.as_slice()
     }
 
-    // Of the module's procedures over a section offset the one that starts last. Where a position is given, the
-    // procedure there is tried first, and then the next one; else it is found by a binary search. Afterwards it is the
-    // position of what was found. All looks count.
+    // The last-starting procedure of the module that contains a section offset. If `position` is given, the procedure
+    // there is tried first, and then the next one; otherwise there is a binary search. Afterwards `position` is that of
+    // the result. `probes` counts all comparisons.
     pub(crate) fn procedure_near(
         &self,
         section_offset: PdbInternalSectionOffset,
@@ -86,10 +86,10 @@ impl<'a> BasicModuleInfo<'a> {
             .procedure_near(section_offset, position, probes)
     }
 
-    /// Of the module's procedures over a section offset the one that starts last.
+    /// The last-starting procedure of the module that contains a section offset.
     ///
-    /// It is found by a binary search. Each entry of the table that is looked at is counted in `probes`: at most one
-    /// more than the number of procedures has binary digits.
+    /// It is found by a binary search. `probes` counts the entries of the table that are compared: at most one more
+    /// than the number of procedures has binary digits.
     pub fn procedure_over(
         &self,
         section_offset: PdbInternalSectionOffset,

@@ -1,4 +1,4 @@
-//! The cache of modules' records and procedures by module index, each read once from the provider.
+//! `BasicModuleInfoCache`: caches modules' records and procedures by module index. Each is read once from the provider.
 
 ghost use Rattle.std.specs.Prelude.{◌≡◌, ◌+◌, ◌<◌, ◌≤◌, [], true, Some, IfSome, IfOk, OnOk};
 ghost use Rattle.std.specs.Prelude.{length, option_map, slice_get};
@@ -23,7 +23,7 @@ use pdb_tables::{Probes, make_slot};
 use std::alloc::{AllocError, Global};
 use std::marker::Model;
 
-// The procedure that was found last: its module index, and its position among the procedures of the module.
+// The result of the last search: its module index, and its position among the module's procedures.
 #[derive(Clone, Copy)]
 struct LastProcedure {
     module_index: usize,
@@ -31,7 +31,7 @@ struct LastProcedure {
 }
 
 impl LastProcedure {
-    // Its position, where it is one of the module at a module index.
+    // The position of the result, if it belongs to the module at a module index.
     fn position_in(self, module_index: usize) -> Option<usize> {
         if module_index == self.module_index {
             self.position
@@ -41,14 +41,14 @@ impl LastProcedure {
     }
 }
 
-/// Remembers the procedures of modules, so that they are read once.
+/// A cache of modules' procedures, so that they are read once.
 ///
-/// A list of modules may be another one at each question: what is remembered serves a module of the name
-/// that it was read for, and of no other.
+/// Each call may pass another list of modules. A cached entry is used only for a module with the name for which it was
+/// read.
 pub struct BasicModuleInfoCache<'a, P: ModuleProvider> {
     alloc: Global,
     provider: &'a P,
-    // What was made of modules, by module index.
+    // The cached entries, by module index.
     cached: Vec<Option<NamedInfo<'a>>>,
     last: LastProcedure,
 }
@@ -64,7 +64,7 @@ impl<P: ModuleProvider> Drop for BasicModuleInfoCache<'_, P> {
     }
 }
 
-// Clauses see the provider, from which alone all answers are computed, and what is remembered.
+// Contracts see the provider, from which alone all answers are computed, and the cached entries.
 impl<'a, P: ModuleProvider> Model for BasicModuleInfoCache<'a, P> {
     ghost use Rattle.pdb_functions.specs.ModuleInfoCache.{InfoCache, IsModuleInfoCache};
 
@@ -75,7 +75,7 @@ impl<'a, P: ModuleProvider> Model for BasicModuleInfoCache<'a, P> {
     ghost invariant = { λ c. IsModuleInfoCache (P.info c.provider.now) c.cached.items };
 }
 
-// The procedures of the module at a module index, where it has records that can be read.
+// Reads the procedures of the module at a module index, if it has records that can be read.
 fn read_info<'a, P: ModuleProvider>(
     alloc: Global,
     provider: &'a P,
@@ -99,7 +99,7 @@ fn read_info<'a, P: ModuleProvider>(
     }
 }
 
-// What is cached at a module index.
+// The cached entry at a module index.
 fn cached_at<'k, 'a>(
     cached: &'k [Option<NamedInfo<'a>>],
     module_index: usize,
@@ -112,7 +112,7 @@ fn cached_at<'k, 'a>(
     }
 }
 
-// Whether something is cached at a module index, with this name.
+// Whether there is a cached entry at a module index, with this name.
 fn serves(cached: &[Option<NamedInfo<'_>>], module_index: usize, name: &RawString) -> bool
     ensures { result ≡ true → IsCachedInfo cached.now module_index name.now }
 {
@@ -122,7 +122,7 @@ fn serves(cached: &[Option<NamedInfo<'_>>], module_index: usize, name: &RawStrin
     }
 }
 
-// Caches what was made of the module at a module index, in the place of what was cached there.
+// Stores the entry of the module at a module index, in place of an older one.
 fn cache_info<'a, P: ModuleProvider>(
     provider: &'a P,
     cached: &mut Vec<Option<NamedInfo<'a>>>,
@@ -141,7 +141,7 @@ fn cache_info<'a, P: ModuleProvider>(
     Ok(())
 }
 
-// Makes sure that what can be read of a module is cached.
+// Makes sure that the entry of a module is cached.
 fn cache_info_of<'a, P: ModuleProvider>(
     alloc: Global,
     provider: &'a P,
@@ -172,7 +172,7 @@ fn cache_info_of<'a, P: ModuleProvider>(
 impl<'a, P: ModuleProvider> BasicModuleInfoCache<'a, P> {
     ghost use Rattle.pdb_functions.specs.contracts.module_info_cache.BasicModuleInfoCache.{the_row};
 
-    /// A cache over a provider of modules' records. It takes no memory.
+    /// An empty cache over a provider of modules' records. It takes no memory.
     pub fn new(alloc: Global, provider: &'a P) -> Self
         ensures { result.provider ≡ provider.now }
     {
@@ -187,7 +187,7 @@ impl<'a, P: ModuleProvider> BasicModuleInfoCache<'a, P> {
         }
     }
 
-    // Makes sure that what can be read of the module at a module index is cached, where there is one.
+    // Makes sure that the entry of the module at a module index is cached, if there is such a module.
     fn learn(&mut self, modules: &[Module], module_index: usize) -> Result<(), AllocError>
         ensures provider { self.new.provider ≡ self.old.provider }
         ensures cached { OnOk result (IfSome (slice_get modules.now module_index)
@@ -207,7 +207,7 @@ impl<'a, P: ModuleProvider> BasicModuleInfoCache<'a, P> {
         )
     }
 
-    // What is cached of the module at a module index, where there is one.
+    // The cached procedures of the module at a module index, if there are any.
     fn look_up(&self, modules: &[Module], module_index: usize) -> Option<&BasicModuleInfo<'a>>
         requires cached { IfSome (slice_get modules.now module_index)
             (λ m. IsCachedInfo self.now.cached module_index m.name) }
@@ -224,10 +224,10 @@ impl<'a, P: ModuleProvider> BasicModuleInfoCache<'a, P> {
 
     /// The procedures of the module at a module index of a list.
     ///
-    /// `None` where the module index is past the list, where the provider has no records of the module or
-    /// answers a fault, or where the list of the module's symbols has one.
+    /// `None` if the module index is after the end of the list, if the provider has no records of the module or returns
+    /// a fault, or if the list of the module's symbols ends early.
     ///
-    /// Answers `AllocError` where memory runs out; the same question may find an answer afterwards.
+    /// `AllocError` if memory runs out. The same call may succeed later.
     pub fn get_basic_module_info(
         &mut self,
         modules: &[Module],
@@ -245,13 +245,13 @@ impl<'a, P: ModuleProvider> BasicModuleInfoCache<'a, P> {
         Ok(self.look_up(modules, module_index))
     }
 
-    /// Of the procedures of the module at a module index of a list, over a section offset the one that starts last.
-    /// `None` also where [`get_basic_module_info`](Self::get_basic_module_info) has none.
+    /// The last-starting procedure, of the module at a module index of a list, that contains a section offset. `None`
+    /// also if [`get_basic_module_info`](Self::get_basic_module_info) returns it.
     ///
-    /// Where the procedure lies over it that was found last, or the next one, it is found at once; else by a binary
-    /// search. Each entry that is looked at is counted in `probes`: at most five more than the number of the module's
-    /// procedures has binary digits. Reading a module that isn't cached is not counted. Answers `AllocError` where
-    /// memory runs out; the same question may find an answer afterwards.
+    /// The result of the last search and the procedure after it are tried first; otherwise there is a binary search.
+    /// `probes` counts the entries that are compared: at most five more than the number of the module's procedures has
+    /// binary digits. Reading a module that isn't cached is not counted. `AllocError` if memory runs out. The same call
+    /// may succeed later.
     pub fn procedure_over(
         &mut self,
         modules: &[Module],

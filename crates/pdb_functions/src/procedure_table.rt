@@ -1,4 +1,4 @@
-//! A table of a module's procedures: of those over a section offset the one that starts last.
+//! `ProcedureTable`: finds the last-starting procedure of a module that contains a section offset.
 
 ghost use Rattle.std.specs.Prelude.{◌≡◌, ◌+◌, ◌*◌, ◌≤◌, true, None, Some, map, option_map, length, IfOk, IfSome};
 ghost use Rattle.std.specs.Option.{option_copied};
@@ -27,7 +27,7 @@ impl Span for ProcedureSymbolFunction<'_> {
     }
 }
 
-// Whether a procedure lies over a section offset.
+// Whether a procedure contains a section offset.
 fn covers(procedure: ProcedureSymbolFunction<'_>, section_offset: PdbInternalSectionOffset) -> bool
     ensures { result ≡ procedure_covers section_offset (module_procedure procedure.entry) }
 {
@@ -38,7 +38,7 @@ fn covers(procedure: ProcedureSymbolFunction<'_>, section_offset: PdbInternalSec
         && u64::from(section_offset.offset) < end
 }
 
-// Whether a procedure starts after a section offset, where there is one.
+// Whether a procedure starts after a section offset; also if there is no procedure.
 fn starts_behind(
     procedure: Option<&ProcedureSymbolFunction<'_>>,
     section_offset: PdbInternalSectionOffset,
@@ -51,14 +51,14 @@ fn starts_behind(
     }
 }
 
-// The procedures of a module by section and start, with a table of the positions of those over section offsets.
+// The procedures of a module, sorted by section and start, with a table of the one to pick at each section offset.
 #[derive(Drop)]
 pub(crate) struct ProcedureTable<'a> {
     procedures: Vec<ProcedureSymbolFunction<'a>>,
     segments: Segments<usize>,
 }
 
-// Clauses see a table as the list of the procedures.
+// Contracts see a table as the list of procedures.
 impl<'a> Model for ProcedureTable<'a> {
     ghost use Rattle.std.specs.Prelude.{◌≡◌, ◌*◌, ◌^◌, ◌<◌, ◌≤◌, List, map, length};
     ghost use Rattle.std.specs.Prelude.{option_map, option_and_then, slice_get};
@@ -85,7 +85,7 @@ impl<'a> Model for ProcedureTable<'a> {
 }
 
 impl<'a> ProcedureTable<'a> {
-    // The table of procedures that stand by section and start, each start once.
+    // Makes a table of procedures that are sorted by section and start, each start once.
     pub(crate) fn new(
         alloc: Global,
         procedures: Vec<ProcedureSymbolFunction<'a>>,
@@ -107,8 +107,8 @@ impl<'a> ProcedureTable<'a> {
         &self.procedures
     }
 
-    // Of the procedures over a section offset the one that starts last, and its position. Each table entry that is
-    // looked at counts.
+    // The last-starting procedure that contains a section offset, and its position. `probes` counts the entries of the
+    // table that are compared.
     fn search(
         &self,
         section_offset: PdbInternalSectionOffset,
@@ -128,8 +128,8 @@ impl<'a> ProcedureTable<'a> {
         )
     }
 
-    // The procedure at a position, where it is the one over a section offset that starts last. It counts as two looks:
-    // at this procedure, and at the next one.
+    // The procedure at a position, if it is the last-starting one that contains a section offset. This counts as two
+    // comparisons: with this procedure and with the next one.
     fn procedure_at(
         &self,
         position: usize,
@@ -155,8 +155,8 @@ impl<'a> ProcedureTable<'a> {
         }
     }
 
-    // Of the procedures over a section offset the one that starts last. Where a position is given, the procedure there
-    // is tried first, and then the next one. Afterwards it is the position of what was found. All looks count.
+    // The last-starting procedure that contains a section offset. If `position` is given, the procedure there is tried
+    // first, and then the next one. Afterwards `position` is that of the result. `probes` counts all comparisons.
     pub(crate) fn procedure_near(
         &self,
         section_offset: PdbInternalSectionOffset,

@@ -1,4 +1,4 @@
-//! The procedures of a module: functions, separated code and thunks, as its symbols show them.
+//! Collects the procedures of a module from its symbols: functions, separated code and thunks.
 
 ghost use Rattle.std.specs.Prelude.{◌≡◌, ◌+◌, map, option_map, Option, Some, None, IfOk, IfErr, OnErr};
 ghost use Rattle.std.specs.Borrow.{Bor};
@@ -17,20 +17,20 @@ use pdb_records::{
 use pdb_tables::{Keyed, first_of_each_key};
 use std::alloc::{AllocError, Global};
 
-/// A procedure of a module: a function with its size, its type, and its place in the module's symbols.
+/// A procedure of a module: its code, its name, its type, and its place in the module's symbols.
 #[derive(Clone, Copy)]
 pub struct ProcedureSymbolFunction<'a> {
-    /// Where it starts.
+    /// The start of its code.
     pub offset: PdbInternalSectionOffset,
     /// The size of its code in bytes, at least 1.
     pub len: u32,
-    /// Its name. That of code apart from its body is the name of the procedure that it belongs to.
+    /// Its name. Separated code has the name of its procedure.
     pub name: &'a RawString,
     /// The position of its symbol.
     pub symbol_index: SymbolIndex,
     /// The position of the symbol that closes it.
     pub end_symbol_index: SymbolIndex,
-    /// Its type, or 0 where none is known.
+    /// Its type, or 0 if none is known.
     pub type_index: TypeIndex,
 }
 
@@ -44,7 +44,7 @@ impl Keyed for ProcedureSymbolFunction<'_> {
     }
 }
 
-// A procedure, unless it has no code.
+// A procedure, unless its code is empty.
 fn non_empty(procedure: ProcedureSymbolFunction<'_>) -> Option<ProcedureSymbolFunction<'_>>
     ensures { option_map module_procedure result ≡ unless_empty (module_procedure procedure.entry) }
 {
@@ -102,8 +102,8 @@ fn of_thunk(at: usize, symbol: &ThunkSymbol) -> Option<ProcedureSymbolFunction<'
     })
 }
 
-// The procedure that the symbol at a position shows, where it does. Code apart from its body looks
-// at the last procedure that counts.
+// The procedure of the symbol at a position, if it has one. `last` is the last procedure before it, from which
+// separated code takes its name and type.
 fn procedure_of<'a>(
     at: usize,
     last: Option<ProcedureSymbolFunction<'a>>,
@@ -123,7 +123,7 @@ fn procedure_of<'a>(
     }
 }
 
-// The procedures that symbols show, in reading order.
+// The procedures of symbols, in file order.
 fn procedures_in_reading_order(
     alloc: Global,
     symbols: &[Symbol],
@@ -141,8 +141,7 @@ fn procedures_in_reading_order(
     Ok(procedures)
 }
 
-// The procedures that symbols show, by section and start. Of each start the first in reading order
-// stays.
+// The procedures of symbols, sorted by section and start. At each start the first one in file order is kept.
 pub(crate) fn compute_procedures(
     alloc: Global,
     symbols: &[Symbol],

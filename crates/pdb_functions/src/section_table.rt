@@ -1,4 +1,4 @@
-//! A table of a program's sections: the section offset of an address.
+//! `SectionTable`: finds the section offset of an address.
 
 ghost use Rattle.std.specs.Prelude.{◌≡◌, ◌+◌, ◌*◌, ◌≤◌, length, option_and_then, IfOk};
 ghost use Rattle.pdb_records.specs.Addresses.{internal_offset};
@@ -10,7 +10,7 @@ use pdb_tables::{Probes, Segment, Segments};
 use std::alloc::{AllocError, Global};
 use std::marker::Model;
 
-// Where a section starts, and its position in the list of sections, counted from 0.
+// The start of a section, and its position in the list of sections, counted from 0.
 #[derive(Clone, Copy)]
 pub(crate) struct SectionStart {
     pub(crate) index: usize,
@@ -36,8 +36,8 @@ fn segments_of(
     Ok(segments)
 }
 
-// The section offset of an address in a section that starts at it or below. `None` where the section has a number
-// past 65535.
+// The section offset of an address in a section that starts at or before it. `None` if the section's number is greater
+// than 65535.
 fn section_offset_in(address: u32, section: SectionStart) -> Option<PdbInternalSectionOffset>
     ensures { result ≡ section_offset_in address section }
 {
@@ -50,14 +50,14 @@ fn section_offset_in(address: u32, section: SectionStart) -> Option<PdbInternalS
     })
 }
 
-/// The sections of a program, with a table of which of them holds each address.
+/// The sections of a program, with a table of the section that contains each address.
 #[derive(Drop)]
 pub struct SectionTable<'a> {
     address_map: &'a AddressMap,
     segments: Segments<SectionStart>,
 }
 
-// Clauses see a table as the sections of the address map.
+// Contracts see a table as the sections of the address map.
 impl<'a> Model for SectionTable<'a> {
     ghost use Rattle.std.specs.Prelude.{◌≡◌, ◌*◌, ◌≤◌, ℕ, List, length, option_and_then};
     ghost use Rattle.pdb_records.specs.Addresses.{offset_from};
@@ -77,8 +77,7 @@ impl<'a> Model for SectionTable<'a> {
 }
 
 impl<'a> SectionTable<'a> {
-    /// The table of a program's sections. Its time grows with n log n for n of them. Answers `AllocError` where
-    /// memory runs out.
+    /// Makes a table of a program's sections. Takes O(n log n) time for n of them. `AllocError` if memory runs out.
     #[tactic(auto, using(crate::proofs::SectionLemmas::count, crate::proofs::SectionLemmas::section_of_painted))]
     pub fn new(alloc: Global, address_map: &'a AddressMap) -> Result<Self, AllocError>
         ensures { IfOk result (λ table. table ≡ address_map.now) }
@@ -92,11 +91,11 @@ impl<'a> SectionTable<'a> {
         })
     }
 
-    /// The section offset of an address: the first section in order that holds it, and the bytes from that section's
-    /// start. `None` where no section holds it, or the first that does has a number past 65535.
+    /// The section offset of an address: the first section in order that contains it, and the offset from that
+    /// section's start. `None` if no section contains it, or the number of the first that does is greater than 65535.
     ///
-    /// It is found by a binary search. Each entry of the table that is looked at is counted in `probes`: at most one
-    /// more than the number of sections has binary digits.
+    /// It is found by a binary search. `probes` counts the entries of the table that are compared: at most one more
+    /// than the number of sections has binary digits.
     pub fn section_offset_of(
         &self,
         address: Rva,

@@ -1,4 +1,4 @@
-//! Tables of what lies over section offsets, as contributions and procedures, by section offsets' keys.
+//! Tables of contributions or procedures by section offset, with section offsets as single numbers (keys).
 
 ghost use Rattle.std.specs.Prelude.{◌≡◌, ◌+◌, ◌*◌, ◌^◌, ◌<◌, ◌≤◌, Bool, None, length, slice_get, option_and_then, IfOk};
 ghost use Rattle.pdb_records.specs.declared.addresses.PdbInternalSectionOffset.{PdbInternalSectionOffset};
@@ -11,11 +11,11 @@ use pdb_records::PdbInternalSectionOffset;
 use pdb_tables::{Probes, Segment, Segments};
 use std::alloc::{AllocError, Global};
 
-// The keys that a section has room for: more than twice as many as it has offsets, so that what starts in
-// a section ends in its room.
+// The distance between the keys of two sections. It is more than twice the number of offsets in a section, so that a
+// span which starts in a section ends before the keys of the next one.
 const ROOM: u64 = 0x4_0000_0000;
 
-// The number of a section offset.
+// The key of a section offset.
 pub(crate) fn key(section_offset: PdbInternalSectionOffset) -> u64
     ensures answer { result ≡ key section_offset }
     ensures offset { section_offset.offset < 2 ^ 32 }
@@ -24,24 +24,24 @@ pub(crate) fn key(section_offset: PdbInternalSectionOffset) -> u64
     u64::from(section_offset.section) * ROOM + u64::from(section_offset.offset)
 }
 
-// The keys from a first one up to the one before an end.
+// A range of keys: the first one, and the one after the last.
 #[derive(Clone, Copy)]
 pub(crate) struct Keys {
     pub(crate) start: u64,
     pub(crate) end: u64,
 }
 
-// What lies over the section offsets from a start up to an end, in one section.
+// An element that covers a range of section offsets in one section.
 pub(crate) trait Span: Copy {
-    // Whether it lies over a section offset.
+    // Whether it covers a section offset.
     ghost is_over: { PdbInternalSectionOffset → Self → Bool };
 
-    // The keys of the section offsets that it lies over.
+    // The keys of the section offsets that it covers.
     fn keys(&self) -> Keys
         ensures { HasKeys result.start result.end (λ section_offset. is_over section_offset self.now) };
 }
 
-// The table in which each section offset has the position of the last of the spans over it.
+// Makes a table that has for each section offset the position of the last span that covers it.
 pub(crate) fn segments_of<T: Span>(
     alloc: Global,
     spans: &[T],
@@ -64,7 +64,7 @@ pub(crate) fn segments_of<T: Span>(
     Ok(table)
 }
 
-// The span whose position the table has for a section offset. It is put at `position`.
+// The span that the table has for a section offset. `position` gets its position.
 pub(crate) fn find<T: Copy>(
     spans: &[T],
     table: &Segments<usize>,

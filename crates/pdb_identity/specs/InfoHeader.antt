@@ -1,11 +1,11 @@
--- What the info stream of a PDB file begins with.
+-- The header of a PDB file's info stream.
 use Rattle.std.specs.Prelude.{ℕ, List, Option, Some, None, drop, take, length, nat_lt, if◌then◌else◌}
 use Rattle.byteorder.specs.Endian.{little_number}
 use Rattle.uuid.specs.Parts.{swap_fields}
 use Rattle.pdb_identity.specs.declared.info_header.InfoHeader.{InfoHeader}
 
--- version, time stamp and age, four bytes each, and the sixteen bytes of the GUID, the first three fields of which
--- stand with their lowest byte first
+-- the header: version, time stamp and age, four bytes each, and the 16 bytes of the GUID, whose first three fields are
+-- little-endian
 abbrev pub info_header : List ℕ → Option InfoHeader
 info_header bytes =
     if nat_lt (length bytes) 28 then None

@@ -1,15 +1,15 @@
-//! A code id: the time stamp and the size by which symbol servers know the file of a program.
+//! `CodeId`: the time stamp and the size by which symbol servers identify the file of a program.
 
 use std::fmt;
 
-/// What tells the builds of a program apart by its own file. The text is `6B32B9415000`: eight digits of the time stamp,
-/// and after them those of the size.
+/// Identifies a build of a program by its own file. The text is, for example, `6B32B9415000`: eight digits of the time
+/// stamp, followed by those of the size.
 #[derive(Debug, Clone, Copy, PartialEq, Eq)]
 pub struct CodeId {
-    /// When the program was linked, in seconds since 1970, or a hash where the linker was told to make the same file
-    /// again.
+    /// When the program was linked, in seconds since 1970. If the linker was told to make reproducible files, this is a
+    /// hash.
     pub time_stamp: u32,
-    /// The bytes that the program takes where it is loaded.
+    /// The size of the program in memory, in bytes (SizeOfImage).
     pub image_size: u32,
 }
 

@@ -7,25 +7,25 @@ use crate::debug_id::DebugId;
 use pe_image::{bytes_at, u32_at};
 use uuid::Uuid;
 
-/// What the record begins with, the letters `RSDS`.
+/// The signature of the record, the letters `RSDS`.
 const RSDS: u32 = 0x5344_5352;
 
-/// Where the GUID stands in the record, then the age, and then the path.
+/// The offsets of the GUID, the age and the path in the record.
 const GUID: usize = 4;
 
 const AGE: usize = 20;
 
 const PATH: usize = 24;
 
-/// What a program says of its PDB file.
+/// The PDB file that a program names.
 #[derive(Debug, Clone, Copy)]
 pub struct CodeView<'a> {
     pub debug_id: DebugId,
-    /// The path where the linker wrote the PDB file, as the bytes before the first zero.
+    /// The path where the linker wrote the PDB file: the bytes before the first zero.
     pub path: &'a [u8],
 }
 
-/// What a CodeView record in these bytes says.
+/// Reads a CodeView record; `None` if these bytes aren't one.
 pub(crate) fn read_code_view(bytes: &[u8]) -> Option<CodeView<'_>>
     ensures answer { option_map code_view_seen result ≡ code_view bytes.now }
 {
@@ -37,7 +37,7 @@ pub(crate) fn read_code_view(bytes: &[u8]) -> Option<CodeView<'_>>
     })
 }
 
-// The debug id of a record in these bytes. The age stands after the GUID.
+// Reads the debug id of a CodeView record: the GUID, and the age after it.
 fn code_view_id(bytes: &[u8]) -> Option<DebugId>
     ensures answer { result ≡ code_view_id bytes.now }
 {
@@ -51,7 +51,7 @@ fn code_view_id(bytes: &[u8]) -> Option<DebugId>
     Some(DebugId { guid, age })
 }
 
-// The bytes before the first zero, or all where there is none.
+// The bytes before the first zero; all bytes if there is none.
 fn before_zero(bytes: &[u8]) -> &[u8]
     ensures { result.now ≡ before_zero bytes.now }
 {

@@ -1,4 +1,4 @@
-//! A debug id: the GUID and the age by which a program and its PDB file know one another, in the two forms of tools.
+//! `DebugId`: the GUID and the age that match a program to its PDB file, in the two text forms of tools.
 
 ghost use Rattle.std.specs.Prelude.{◌≡◌, ◌≤◌, None, Some};
 ghost use Rattle.uuid.specs.Text.{parsed};
@@ -8,27 +8,27 @@ ghost use Rattle.pdb_identity.specs.DebugIds.{id_by_slash, id_of_parts};
 use std::fmt;
 use uuid::Uuid;
 
-/// What a program and its PDB file both hold, so that one can be found for the other.
+/// The identity that a program and its PDB file share, so that one can be found for the other.
 ///
-/// A linker makes a GUID for a new PDB file, and counts the age up where it writes to one that is there. The text is
-/// `{3844DBB9-2017-4967-BE7A-A4A2C20430FA}/2`.
+/// A linker makes a GUID for a new PDB file, and increases the age when it updates an existing one. The text is, for
+/// example, `{3844DBB9-2017-4967-BE7A-A4A2C20430FA}/2`.
 #[derive(Debug, Clone, Copy, PartialEq, Eq)]
 pub struct DebugId {
     pub guid: Uuid,
     pub age: u32,
 }
 
-/// A debug id as symbol servers and Breakpad have it: 32 digits, and after them the age, as
+/// A debug id as symbol servers and Breakpad write it: 32 digits followed by the age, such as
 /// `3844DBB920174967BE7AA4A2C20430FA2`.
 #[derive(Debug, Clone, Copy, PartialEq, Eq)]
 pub struct CompactDebugId(pub DebugId);
 
-/// How many digits a GUID has.
+/// The number of digits of a GUID.
 const GUID_DIGITS: usize = 32;
 
 impl DebugId {
-    /// The debug id of a text in either form, whose digits may have either case. The age has decimal digits after a
-    /// slash, and hexadecimal ones without. `None` if the text has another form, a sign, or an age past 32 bits.
+    /// Parses a debug id in either form, with digits in either case. The age is decimal after a slash, and hexadecimal
+    /// otherwise. `None` if the text has another form, a sign, or an age of more than 32 bits.
     pub fn parse(text: &str) -> Option<DebugId>
         ensures answer { result ≡ debug_id_of text.now }
     {
@@ -38,7 +38,7 @@ impl DebugId {
         }
     }
 
-    /// The same in the form of symbol servers.
+    /// The debug id in the form of symbol servers.
     pub fn compact(self) -> CompactDebugId
         ensures answer { result.0 ≡ self }
     {
@@ -46,7 +46,7 @@ impl DebugId {
     }
 }
 
-// The debug id of a text without a slash.
+// Parses a debug id without a slash.
 fn compact_id(text: &str) -> Option<DebugId>
     ensures { result ≡ id_by_slash None text.now }
 {
@@ -54,7 +54,7 @@ fn compact_id(text: &str) -> Option<DebugId>
     id_of_parts(guid, age, 16)
 }
 
-// The debug id of the text of a GUID and of the digits of an age in this radix.
+// Parses a debug id from the text of a GUID and the digits of an age in this radix.
 fn id_of_parts(guid: &str, age: &str, radix: u32) -> Option<DebugId>
     requires least { 2 ≤ radix }
     requires most { radix ≤ 16 }
@@ -65,7 +65,7 @@ fn id_of_parts(guid: &str, age: &str, radix: u32) -> Option<DebugId>
     Some(DebugId { guid, age })
 }
 
-// The GUID of a text in any form of GUIDs.
+// Parses a GUID in any of its forms.
 fn guid_of(text: &str) -> Option<Uuid>
     ensures { result ≡ parsed text.now }
 {
@@ -75,7 +75,7 @@ fn guid_of(text: &str) -> Option<Uuid>
     }
 }
 
-// The age that digits write, where no sign stands before them.
+// Parses the digits of an age. A sign is refused.
 fn age_of(digits: &str, radix: u32) -> Option<u32>
     requires least { 2 ≤ radix }
     requires most { radix ≤ 16 }

@@ -1,4 +1,4 @@
-//! What the info stream of a PDB file begins with: version, time stamp, age and GUID.
+//! Reads the header of a PDB file's info stream: version, time stamp, age and GUID.
 
 ghost use Rattle.std.specs.Prelude.{◌≡◌, ◌≤◌, ◌+◌, drop, take, length};
 ghost use Rattle.byteorder.specs.Endian.{little_number};
@@ -7,25 +7,26 @@ ghost use Rattle.pdb_identity.specs.InfoHeader.{info_header};
 use byteorder::{ByteOrder, LittleEndian};
 use uuid::Uuid;
 
-/// How many bytes these are.
+/// The size of the header in bytes.
 const FRONT: usize = 28;
 
-/// Where the GUID stands.
+/// The offset of the GUID.
 const GUID: usize = 12;
 
-/// What an info stream begins with.
+/// The header of an info stream.
 #[derive(Debug, Clone, Copy, PartialEq, Eq)]
 pub struct InfoHeader {
     pub version: u32,
-    /// When the file was made, in seconds since 1970, or a hash where the linker was told to make the same file again.
+    /// When the file was made, in seconds since 1970. If the linker was told to make reproducible files, this is a
+    /// hash.
     pub time_stamp: u32,
-    /// How often the file was written to. The age that counts for programs is that of the debug information.
+    /// How often the file was written. Programs don't have this age but the one in the debug information.
     pub age: u32,
     pub guid: Uuid,
 }
 
 impl InfoHeader {
-    /// What the bytes of an info stream begin with, or nothing where they are too few.
+    /// Reads the header of an info stream; `None` if there are too few bytes.
     pub fn read(stream: &[u8]) -> Option<InfoHeader>
         ensures answer { result ≡ info_header stream.now }
     {

@@ -1,4 +1,4 @@
-//! Which build a program and its PDB file are of: the GUID and the age that a linker writes into both.
+//! The identity of a program and its PDB file: the GUID and the age that a linker writes into both.
 #![tactic(auto)]
 
 mod code_id;

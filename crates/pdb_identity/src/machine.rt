@@ -1,8 +1,8 @@
-//! Processors, by the numbers that programs and PDB files have for them.
+//! `Machine`: a processor, by the number that programs and PDB files have for it.
 
 use std::fmt;
 
-/// A processor by its number. The text is the name that tools have for it, or the number.
+/// A processor by its number. Its text is the name that tools use for it, or the number if it has none.
 #[derive(Debug, Clone, Copy, PartialEq, Eq)]
 pub struct Machine(pub u16);
 

@@ -1,4 +1,4 @@
-//! What a program or a DLL says of itself: its build, its machine, its image base, and its PDB file.
+//! Reads the identity of a program or a DLL: its code id, its machine, its image base, and the PDB file that it names.
 
 ghost use Rattle.std.specs.Prelude.{◌≡◌, option_map, IfOk};
 ghost use Rattle.pe_image.specs.Image.{program_of};
@@ -12,18 +12,18 @@ use crate::machine::Machine;
 use pe_image::{DebugEntry, IMAGE_DEBUG_TYPE_CODEVIEW, Image, debug_entries, read_image};
 use std::alloc::{AllocError, Global};
 
-/// What a program's file says of itself.
+/// The identity of a program.
 #[derive(Debug, Clone, Copy)]
 pub struct ProgramFile<'a> {
     pub machine: Machine,
     pub code_id: CodeId,
-    /// The address that the program is linked for.
+    /// The address at which the program should be loaded (ImageBase).
     pub image_base: u64,
-    /// What it says of its PDB file, where it was linked with one.
+    /// The PDB file that the program names, if it names one.
     pub code_view: Option<CodeView<'a>>,
 }
 
-/// What the file of a program or a DLL says of itself, or `None` if it is no program.
+/// Reads the identity of a program or a DLL; `None` if the file isn't one.
 pub fn read_program(alloc: Global, file: &[u8]) -> Result<Option<ProgramFile<'_>>, AllocError>
     ensures answer { IfOk result (λ found.
         option_map identity_seen found ≡ option_map program_identity (program_of file.now)) }
@@ -35,7 +35,7 @@ pub fn read_program(alloc: Global, file: &[u8]) -> Result<Option<ProgramFile<'_>
     Ok(Some(program_file(&image, &entries)))
 }
 
-// What a program says of itself, by the entries of its debug directory.
+// The identity of a program, by the entries of its debug directory.
 fn program_file<'a>(image: &Image<'a>, entries: &[DebugEntry]) -> ProgramFile<'a>
     ensures { identity_seen result ≡ identity_by entries.now image.now }
 {
@@ -50,7 +50,7 @@ fn program_file<'a>(image: &Image<'a>, entries: &[DebugEntry]) -> ProgramFile<'a
     }
 }
 
-// The first CodeView record that these entries name.
+// The first CodeView record to which these entries refer.
 fn code_view_in<'a>(image: &Image<'a>, entries: &[DebugEntry]) -> Option<CodeView<'a>>
     ensures { option_map code_view_seen result ≡ code_view_in image.now entries.now }
 {
@@ -62,7 +62,7 @@ fn code_view_in<'a>(image: &Image<'a>, entries: &[DebugEntry]) -> Option<CodeVie
     None
 }
 
-// The CodeView record that an entry names.
+// The CodeView record to which an entry refers.
 fn code_view_by<'a>(image: &Image<'a>, entry: DebugEntry) -> Option<CodeView<'a>>
     ensures { option_map code_view_seen result ≡ code_view_by image.now entry }
 {

@@ -1,4 +1,4 @@
--- What sites cover together with the sites inside them, as it is found from the last site to the first. These are
+-- Ranges that inline sites cover together with the sites inside them, found from the last site to the first. These are
 -- steps of the code: its private functions cite them, and no public contract or law does.
 use Rattle.std.specs.Prelude.{ℕ, Bool, false, ◌||◌, ◌&&◌, List, [], ◌∷◌, ◌++◌, nat_lt, reverse, if◌then◌else◌}
 use Rattle.std.specs.List.{flat_map}
@@ -12,13 +12,13 @@ use Rattle.pdb_inline.specs.InlineRanges.{own_ranges, added_ranges, range_before
 use Rattle.pdb_tables.specs.Runs.{missing_runs}
 use Rattle.pdb_inline.specs.Sites.{SiteAtDepth}
 
--- what the rows of the sites cover that follow at once and are deeper
+-- the ranges of the rows of the next sites, as long as these are deeper
 abbrev pub deeper_ranges : List IdIndex → ℕ → List SiteAtDepth → List (ℕ × ℕ)
 deeper_ranges inlinees depth [] = []
 deeper_ranges inlinees depth (site ∷ sites) =
     if nat_lt depth site.depth then row_ranges inlinees site.symbol ++ deeper_ranges inlinees depth sites else []
 
--- the ranges that are added to sites, where those inside a site are the deeper ones that follow it at once
+-- the added ranges of sites; the sites inside a site are the deeper ones right after it
 abbrev pub added_by_depth : List IdIndex → List SiteAtDepth → List InlineRange
 added_by_depth inlinees [] = []
 added_by_depth inlinees (site ∷ sites) =
@@ -26,20 +26,20 @@ added_by_depth inlinees (site ∷ sites) =
     (missing_runs (deeper_ranges inlinees site.depth sites) (row_ranges inlinees site.symbol))
     ++ added_by_depth inlinees sites
 
--- the ranges of sites as they are read, where those inside a site are the deeper ones that follow it at once
+-- the ranges of sites in reading order; the sites inside a site are the deeper ones right after it
 abbrev pub read_by_depth : List IdIndex → List SiteAtDepth → List InlineRange
 read_by_depth inlinees sites =
     flat_map (λ site. own_ranges inlinees site.depth site.symbol) sites ++ added_by_depth inlinees sites
 
--- the same by depth and start
+-- the ranges of sites, sorted by depth and start
 abbrev pub ranges_by_depth : List IdIndex → List SiteAtDepth → List InlineRange
 ranges_by_depth inlinees sites = in_order range_before (read_by_depth inlinees sites)
 
--- whether a number is in the runs at the top that are deeper, the top one first
+-- whether `x` is in one of the first runs of a list, as long as these are deeper than `depth`
 abbrev pub is_in_top : ℕ → List CoveredRun → ℕ → Bool
 is_in_top depth [] x = false
 is_in_top depth (run ∷ runs) x = nat_lt depth run.depth && (is_within run.start run.end x || is_in_top depth runs x)
 
--- whether a number is in the runs at the end of a list that are deeper
+-- whether `x` is in one of the last runs of a list, as long as these are deeper than `depth`
 abbrev pub is_on_stack : ℕ → List CoveredRun → ℕ → Bool
 is_on_stack depth runs x = is_in_top depth (reverse runs) x

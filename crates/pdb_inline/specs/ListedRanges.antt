@@ -1,4 +1,4 @@
--- Ranges with their positions in a list.
+-- Inline ranges together with their positions in a list.
 use Rattle.std.specs.Prelude.{ℕ, ◌+◌, List, [], ◌∷◌, reverse, Option, Some, option_map, if◌then◌else◌}
 use Rattle.std.specs.Ordering.{nat_cmp}
 use Rattle.pdb_tables.specs.InOrder.{in_order}
@@ -8,22 +8,22 @@ use Rattle.pdb_inline.specs.declared.inline_ranges.InlineRange.{InlineRange}
 use Rattle.pdb_inline.specs.declared.listed_ranges.ListedRange.{ListedRange}
 use Rattle.pdb_inline.specs.InlineStacks.{lies_over}
 
--- the ranges with their positions, of which this one is the first
+-- each range with its position, where the first one has the given position
 abbrev pub listed : ℕ → List InlineRange → List ListedRange
 listed position [] = []
 listed position (range ∷ ranges) = record { position = position; range = range } ∷ listed (position + 1) ranges
 
--- the ranges by their starts; of equal starts the last of the list stands first
+-- the ranges sorted by start; of equal starts the last of the list comes first
 abbrev pub ranges_by_start : List InlineRange → List ListedRange
 ranges_by_start ranges = in_order (is_lower nat_cmp (λ listed. listed.range.start_offset)) (reverse (listed 0 ranges))
 
--- the position of the last of the ranges of a depth over a number, or else what was there before
+-- the position of the last range of a depth that contains `x`, or `before` if there is none
 abbrev pub last_position : ℕ → ℕ → Option ℕ → List ListedRange → Option ℕ
 last_position depth x before [] = before
 last_position depth x before (listed ∷ ranges) =
     last_position depth x (if lies_over depth x listed.range then Some listed.position else before) ranges
 
--- the position of the range that is picked at a depth for a number
+-- the position of the range that is picked at a depth for `x`
 abbrev pub picked_position : List InlineRange → ℕ → ℕ → Option ℕ
 picked_position ranges x depth =
     option_map (λ listed. listed.position)

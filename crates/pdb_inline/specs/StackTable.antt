@@ -7,7 +7,7 @@ use Rattle.pdb_tables.specs.Segments.{value_at}
 use Rattle.pdb_inline.specs.declared.inline_ranges.InlineRange.{InlineRange}
 use Rattle.pdb_inline.specs.InlineStacks.{inline_stack}
 
--- a segment whose value says from where to where its stack stands in a list, with that stack
+-- a segment with its stack instead of the range of the stack in a list
 abbrev pub with_stack : List ℕ → Segment (ℕ × ℕ) → Segment (List ℕ)
 with_stack positions segment = record {
   start = segment.start;
@@ -19,22 +19,21 @@ with_stack positions segment = record {
 abbrev pub with_stacks : List ℕ → List (Segment (ℕ × ℕ)) → List (Segment (List ℕ))
 with_stacks positions segments = map (with_stack positions) segments
 
--- from where to where a stack stands, where there is one, lies in the list
+-- the range of a stack, if there is one, is inside the list
 abbrev pub LiesIn : List ℕ → Option (ℕ × ℕ) → Type 0
 LiesIn positions None = ⊤
 LiesIn positions (Some bounds) = (bounds.0 ≤ bounds.1) × (bounds.1 ≤ length positions)
 
--- a stack, empty where there is none
+-- a stack, empty if there is none
 abbrev pub or_empty : Option (List ℕ) → List ℕ
 or_empty None = []
 or_empty (Some stack) = stack
 
--- the positions that a table has for a number
+-- the positions that a table has for `x`
 abbrev pub stack_over : List (Segment (List ℕ)) → ℕ → List ℕ
 stack_over table x = or_empty (value_at table x)
 
--- for each number a table has the positions at which a list of ranges has the inlined bodies over it, the outermost
--- first
+-- for each number `x`, a table has the positions of the inlined bodies at `x` in a list of ranges, the outermost first
 abbrev pub HasStacks : List InlineRange → List (Segment (List ℕ)) → Type 0
 HasStacks ranges table = (x : ℕ) → map (slice_get ranges) (stack_over table x) ≡ map Some (inline_stack ranges x)
 

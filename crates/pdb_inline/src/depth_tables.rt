@@ -1,4 +1,4 @@
-//! For each depth a table of which inline range is picked over a number, by its position in the list.
+//! For each depth, a table from section offsets to the position of the inline range that is picked there.
 
 ghost use Rattle.std.specs.Prelude.{◌≡◌, ◌==◌, ◌<◌, ◌≤◌, ◌++◌, ◌∷◌, [], ℕ, map};
 ghost use Rattle.std.specs.Prelude.{length, None, IfOk, OnOk, if◌then◌else◌};
@@ -11,7 +11,7 @@ use crate::listed_ranges::{ListedRange, ranges_by_start};
 use pdb_tables::{Probes, Segment, Segments};
 use std::alloc::{AllocError, Global};
 
-// No segment at each of so many depths.
+// `depths` empty lists of segments.
 fn no_segments(alloc: Global, depths: usize) -> Result<Vec<Vec<Segment<usize>>>, AllocError>
     ensures count { IfOk result (λ v. length v.items ≡ depths) }
     ensures none { IfOk result (λ v. (depth : ℕ) → segments_at v.items depth ≡ []) }
@@ -23,7 +23,6 @@ fn no_segments(alloc: Global, depths: usize) -> Result<Vec<Vec<Segment<usize>>>,
     Ok(all)
 }
 
-// Adds a segment at a depth.
 fn push_at(
     all: &mut Vec<Vec<Segment<usize>>>,
     depth: usize,
@@ -39,7 +38,7 @@ fn push_at(
     Ok(())
 }
 
-// At each of so many depths the ranges of it as segments of their positions, in the order in which they stand.
+// For each depth below `depths`, its ranges as segments whose values are the ranges' positions. They keep their order.
 fn segments_by_depth(
     alloc: Global,
     ranges: &[ListedRange],
@@ -64,7 +63,7 @@ fn segments_by_depth(
     Ok(all)
 }
 
-// The tables that lists of segments make, each painted in the order of its list.
+// Makes a table from each list of segments. Where segments overlap, the last one of the list counts.
 fn tables_of(
     alloc: Global,
     lists: &[Vec<Segment<usize>>],
@@ -79,10 +78,10 @@ fn tables_of(
     Ok(tables)
 }
 
-// For each depth a table of the positions of the ranges that are picked there. A depth that is as great as there
-// are ranges is in no stack, and has none.
+// For each depth, a table of the positions of the ranges that are picked there. Depths from the number of ranges on get
+// no table, because a stack has at most one range for each depth, without gaps.
 //
-// Its time grows with n log n for n ranges.
+// Takes O(n log n) time for n ranges.
 pub(crate) fn depth_tables(
     alloc: Global,
     ranges: &[InlineRange],
@@ -96,7 +95,7 @@ pub(crate) fn depth_tables(
     Ok(tables)
 }
 
-// Adds the positions that the tables have for a number, up to the first table that has none.
+// Adds the position that each table has for `x`, from the outermost depth on. Stops at the first table that has none.
 pub(crate) fn push_positions(
     positions: &mut Vec<usize>,
     tables: &[Segments<usize>],

@@ -1,4 +1,4 @@
-//! Laws of inline ranges, for every list of symbols, badly nested ones too; the functions do nothing.
+//! Laws of inline ranges for every list of symbols, also badly nested ones. The functions do nothing.
 
 ghost use Rattle.std.specs.Prelude.{◌≡◌, ℕ, ◌+◌, ◌≤◌, ◌<◌, ◌↔◌, ◌&&◌, not, true, false};
 ghost use Rattle.std.specs.Prelude.{IsTrue, Contains, List, Option, Some, length, slice_get};
@@ -14,15 +14,15 @@ ghost use Rattle.pdb_inline.specs.InlineStacks.{lies_over, has_range_over, is_co
 ghost use Rattle.pdb_inline.specs.InlineStacks.{inline_stack, site_ranges, IsSoleOver, IsDirectlyInside};
 ghost use Rattle.pdb_inline.specs.WellNested.{AreWellNested};
 
-/// The ranges of a depth together cover exactly what the rows of sites at least that deep cover.
+/// The ranges of a depth together cover exactly the code that rows of sites of at least that depth cover.
 pub fn ranges_cover_deeper_sites()
     ensures { (inlinees : List IdIndex) (symbols : List Symbol) (fault : Option StreamError) (position end depth x : ℕ)
         → has_range_over (inline_ranges inlinees (walk symbols fault position end).sites) depth x
         ≡ is_covered inlinees (walk symbols fault position end).sites depth x }
 {}
 
-/// The stack over a number has an entry for each depth at which the number is covered, and none is
-/// missing; past the number of sites no depth is left out.
+/// The stack at an offset has an entry for each depth at which the offset is covered, without gaps. A depth beyond the
+/// number of sites covers nothing.
 pub fn stacks_have_all_levels()
     ensures all { (inlinees : List IdIndex) (symbols : List Symbol) (fault : Option StreamError) (position end x : ℕ)
         → length (inline_stack (inline_ranges inlinees (walk symbols fault position end).sites) x)
@@ -33,15 +33,15 @@ pub fn stacks_have_all_levels()
         → is_covered inlinees (walk symbols fault position end).sites depth x ≡ false }
 {}
 
-/// Every number in a range of a depth lies in a range of the depth above it.
+/// Every offset in a range of a depth is also in a range of the next outer depth.
 pub fn ranges_lie_in_ranges_above()
     ensures { (inlinees : List IdIndex) (symbols : List Symbol) (fault : Option StreamError) (position end depth x : ℕ)
         → has_range_over (inline_ranges inlinees (walk symbols fault position end).sites) (depth + 1) x ≡ true
         → has_range_over (inline_ranges inlinees (walk symbols fault position end).sites) depth x ≡ true }
 {}
 
-/// Where the sites of a procedure are well nested, a site is inside another exactly where its position
-/// lies between the other's position and end. Symbols that open no site don't matter.
+/// If the sites of a procedure are well nested, a site is inside another exactly if its position is between the other's
+/// position and end. Symbols that open no site don't matter.
 pub fn well_nested_sites_are_inside_by_position()
     ensures { (symbols : List Symbol) (fault : Option StreamError) (position end : ℕ) (outer inner : Site)
         → AreWellNested (walk symbols fault position end).sites
@@ -51,9 +51,8 @@ pub fn well_nested_sites_are_inside_by_position()
         ↔ ((outer.position < inner.position) × (inner.position < outer.symbol.end.0)) }
 {}
 
-/// Each entry of the stack over a number is a range of a site of its depth, over the number. Where for
-/// each depth one site alone has ranges over the number, each of these sites lies directly inside the
-/// next outer one.
+/// Each entry of the stack at an offset is a range of a site of that depth, and contains the offset. If for each depth
+/// only one site has ranges that contain the offset, each of these sites is directly inside the next outer one.
 pub fn stacks_lie_directly_inside()
     ensures of_sites { (inlinees : List IdIndex) (symbols : List Symbol) (fault : Option StreamError)
         (position end x level : ℕ) (range : InlineRange)
@@ -76,8 +75,8 @@ pub fn stacks_lie_directly_inside()
         → IsDirectlyInside outer inner }
 {}
 
-/// What is added for a site is for the maximal runs of what the rows of sites inside it cover and its own
-/// rows do not: runs that hold those numbers and no others, none of which touches the next.
+/// The ranges that are added for a site are the maximal runs of offsets that rows of sites inside it cover and its own
+/// rows don't. They contain exactly these offsets, and no two of them touch.
 pub fn added_ranges_are_of_maximal_runs()
     ensures maximal { (inlinees : List IdIndex) (sites : List Site) (site : Site)
         → IsRunsFrom 0 (missing inlinees sites site) }

@@ -1,4 +1,4 @@
-//! The inline ranges of a procedure: of its sites' own rows, and added for the sites inside them.
+//! Computes the inline ranges of a procedure: those of its sites' own rows, and those added for the sites inside them.
 
 ghost use Rattle.std.specs.Prelude.{◌≡◌, ◌++◌, map, IfOk, OnOk, OnErr};
 ghost use Rattle.std.specs.List.{flat_map};
@@ -19,17 +19,17 @@ use std::collections::BTreeSet;
 /// A range of a procedure's code that came from an inlined body.
 #[derive(Clone, Copy)]
 pub struct InlineRange {
-    /// Where it starts, in bytes from the start of the procedure's section.
+    /// The start of the range, in bytes from the start of the procedure's section.
     pub start_offset: u64,
-    /// Where it ends: the offset of the first byte behind it.
+    /// The offset just after the last byte of the range.
     pub end_offset: u64,
-    /// How many inlined bodies the body is inside of.
+    /// The number of inlined bodies that contain this one.
     pub call_depth: usize,
-    /// What was called.
+    /// The function that was inlined.
     pub inlinee: IdIndex,
-    /// The file that it comes from, where that is known.
+    /// The source file of the code, if it is known.
     pub file_index: Option<FileIndex>,
-    /// The line that it comes from, where that is known.
+    /// The source line of the code, if it is known.
     pub line_start: Option<u32>,
 }
 
@@ -43,7 +43,7 @@ impl Keyed for InlineRange {
     }
 }
 
-// Adds the ranges of rows, which a site has.
+// Adds the ranges of a site's rows.
 fn push_own(
     ranges: &mut Vec<InlineRange>,
     site: Site<'_>,
@@ -82,8 +82,7 @@ fn own_ranges_of_sites(
     Ok(ranges)
 }
 
-// The ranges of sites as they are read: of their own rows, and then what is added for the rows of sites
-// inside them.
+// The ranges of sites, unsorted: those of their own rows, and then those added for the rows of sites inside them.
 fn read_ranges(
     alloc: Global,
     inlinees: &BTreeSet<IdIndex>,
@@ -97,7 +96,7 @@ fn read_ranges(
     Ok(ranges)
 }
 
-// The ranges of sites, by depth and start.
+// The ranges of sites, sorted by depth and start.
 fn ranges_of_sites(
     alloc: Global,
     inlinees: &BTreeSet<IdIndex>,
@@ -110,18 +109,18 @@ fn ranges_of_sites(
     Ok(ranges)
 }
 
-/// The ranges of a procedure's code that came from inlined bodies, by depth and start. The procedure's
-/// symbol stands at `position`, and the symbol that closes it at `end`.
+/// The ranges of a procedure's code that came from inlined bodies, sorted by depth and start. `position` is the
+/// position of the procedure's symbol, and `end` that of the symbol that closes it.
 ///
-/// At a depth each site has the ranges of its own rows, and one for each run of code that rows of sites
-/// inside it cover and its own do not; such a range has the file of the site's first row, and no line. Of
-/// one depth and start, ranges of rows stand before added ones, and sites in the order of their symbols.
-/// Rows count where the site's id is among the inlinees.
+/// Each site has the ranges of its own rows. It also has a range for each run of code that rows of sites inside it
+/// cover, but its own rows don't; such a range has the file of the site's first row, and no line. With equal depth and
+/// start, ranges of rows come before added ones, and sites in the order of their symbols. Rows count only if the site's
+/// id is among the inlinees.
 ///
 /// # Errors
 ///
-/// [`Error::PdbError`](pdb_errors::Error::PdbError) where the procedure's symbols go on to the end of the
-/// list, and that has a fault.
+/// [`Error::PdbError`](pdb_errors::Error::PdbError) if the procedure's symbols continue to the end of the list, and the
+/// list ends early.
 pub fn inline_ranges_of_procedure(
     alloc: Global,
     module_info: &ModuleInfo,

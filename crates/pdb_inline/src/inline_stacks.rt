@@ -1,4 +1,4 @@
-//! The stack of inlined bodies over an offset, picked depth by depth from a list of inline ranges.
+//! Picks the stack of inlined bodies at an offset from a list of inline ranges, depth by depth.
 
 ghost use Rattle.std.specs.Prelude.{◌≡◌, ◌==◌, ◌<◌, ◌≤◌, ℕ, length, Some, None, IfOk, OnOk, if◌then◌else◌};
 ghost use Rattle.std.specs.Option.{option_copied};
@@ -11,7 +11,7 @@ use crate::inline_ranges::InlineRange;
 use pdb_tables::make_slot;
 use std::alloc::{AllocError, Global};
 
-// Of two ranges the one that starts later; of equal starts the first.
+// The one of two ranges that starts later; of equal starts the first.
 fn later<'r>(picked: Option<&'r InlineRange>, range: &'r InlineRange) -> &'r InlineRange
     ensures { Some result.now ≡ later_start (λ r. r.start_offset) (option_copied picked.entry) (Some range.now) }
 {
@@ -21,7 +21,7 @@ fn later<'r>(picked: Option<&'r InlineRange>, range: &'r InlineRange) -> &'r Inl
     }
 }
 
-// Picks a range at its depth, unless the one that is picked there starts as late.
+// Picks a range at its depth, unless the one picked there starts at the same offset or later.
 fn pick_at_depth<'r>(
     picked: &mut Vec<Option<&'r InlineRange>>,
     range: &'r InlineRange,
@@ -36,15 +36,15 @@ fn pick_at_depth<'r>(
     Ok(())
 }
 
-// Whether a range lies over an offset.
+// Whether a range contains an offset.
 fn covers(range: &InlineRange, offset: u64) -> bool
     ensures { result ≡ is_within range.now.start_offset range.now.end_offset offset }
 {
     range.start_offset <= offset && offset < range.end_offset
 }
 
-// Of the ranges of each depth over an offset the one that starts last; of equal starts the first. No stack reaches
-// the depth that is as great as the number of ranges, so from there on nothing is picked.
+// For each depth, the range that contains an offset and starts last; of equal starts the first. Depths from the number
+// of ranges on are skipped, because no stack reaches them.
 fn picked_by_depth(
     alloc: Global,
     ranges: &[InlineRange],
@@ -74,13 +74,13 @@ fn range_at(picked: &[Option<&InlineRange>], depth: usize) -> Option<InlineRange
     }
 }
 
-/// The inlined bodies over an offset in a procedure's section, the outermost first, by these ranges of the
-/// procedure's code.
+/// The inlined bodies at an offset in a procedure's section, the outermost first, by these ranges of the procedure's
+/// code.
 ///
-/// At each depth it is the range over the offset that starts last, of equal starts the first of the list.
-/// The stack ends before the first depth without a range over the offset.
+/// At each depth, the range that contains the offset and starts last is picked; of equal starts the first of the list.
+/// The stack ends before the first depth without such a range.
 ///
-/// Answers `AllocError` where memory runs out.
+/// `AllocError` if memory runs out.
 pub fn inline_stack(
     alloc: Global,
     ranges: &[InlineRange],

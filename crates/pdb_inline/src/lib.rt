@@ -1,8 +1,8 @@
-//! The ranges of a procedure's code that came from inlined bodies.
+//! Finds the ranges of a procedure's code that came from inlined bodies, and the stacks that they form.
 //!
-//! A walk over the procedure's symbols finds the sites where a call was replaced by the callee's body; the
-//! rows of each site say which code that is. What lies inside a site lies in its ranges too. The ranges over
-//! one place of the code are a stack of inlined bodies.
+//! A walk over the procedure's symbols finds the inline sites, where a call was replaced by the callee's body. The rows
+//! of each site say which code that is. The ranges of a site also cover the code of the sites inside it. The ranges at
+//! one offset form a stack of inlined bodies.
 #![tactic(auto)]
 
 mod depth_tables;

@@ -1,4 +1,4 @@
-//! Inline ranges with their positions in a list, in order of their starts.
+//! Inline ranges with their positions in a list, sorted by start.
 
 ghost use Rattle.std.specs.Prelude.{◌≡◌, reverse, IfOk};
 ghost use Rattle.pdb_inline.specs.ListedRanges.{listed, ranges_by_start};
@@ -7,7 +7,7 @@ use crate::inline_ranges::InlineRange;
 use pdb_tables::{Keyed, sort_by_key};
 use std::alloc::{AllocError, Global};
 
-// A range of a list, and the position at which it stands there.
+// A range and its position in a list.
 #[derive(Clone, Copy)]
 pub(crate) struct ListedRange {
     pub(crate) position: usize,
@@ -35,7 +35,7 @@ fn listed(alloc: Global, ranges: &[InlineRange]) -> Result<Vec<ListedRange>, All
     Ok(all)
 }
 
-// The ranges of a list with their positions, by their starts; of equal starts the last of the list stands first.
+// The ranges of a list with their positions, sorted by start. Of equal starts the last of the list comes first.
 pub(crate) fn ranges_by_start(
     alloc: Global,
     ranges: &[InlineRange],

@@ -1,4 +1,4 @@
-//! The inline ranges that are added to a site for what sites inside it cover and its own rows don't.
+//! Adds inline ranges to sites for code that sites inside them cover and their own rows don't.
 
 ghost use Rattle.std.specs.Prelude.{◌≡◌, ◌≤◌, ◌<◌, ℕ, ◌||◌, ◌&&◌, ◌++◌, List, not, false};
 ghost use Rattle.std.specs.Prelude.{nat_lt, map, reverse, option_map, slice_get, IfOk, OnOk};
@@ -17,18 +17,18 @@ use pdb_tables::RangeSet;
 use std::alloc::{AllocError, Global};
 use std::collections::BTreeSet;
 
-// A run of code that a site covers together with the sites inside it.
+// A range of code that a site covers together with the sites inside it.
 #[derive(Clone, Copy)]
 pub(crate) struct CoveredRun {
-    // How many sites the site is inside of.
+    // The number of sites that contain the site.
     depth: usize,
-    // Where the run starts.
+    // The start of the range.
     start: u64,
-    // The offset of the first byte behind it.
+    // The offset just after the last byte.
     end: u64,
 }
 
-// Takes the runs that are deeper from the end of a list.
+// Removes the ranges of greater depths from the end of a list, and returns them.
 fn take_deeper(
     alloc: Global,
     depth: usize,
@@ -49,7 +49,7 @@ fn take_deeper(
     Ok(taken)
 }
 
-// Puts runs of a site at a depth at the end of a list.
+// Appends ranges of a site at a depth to a list.
 fn push_runs(
     stack: &mut Vec<CoveredRun>,
     depth: usize,
@@ -66,8 +66,8 @@ fn push_runs(
     Ok(())
 }
 
-// What the sites inside a site cover and its own rows do not. In the list of covered runs, those of the
-// sites inside it make room for its own.
+// The code that sites inside a site cover and its own rows don't. In `stack`, the ranges of the sites inside it are
+// replaced by its own.
 fn missing_in(
     alloc: Global,
     depth: usize,
@@ -88,7 +88,7 @@ fn missing_in(
     Ok(missing)
 }
 
-// Adds the ranges of a site's missing runs, the last run first.
+// Adds the ranges that a site's own rows don't cover, the last one first.
 fn push_added(
     added: &mut Vec<InlineRange>,
     site: Site<'_>,
@@ -121,7 +121,7 @@ fn first_file(rows: &[InlineRow]) -> Option<FileIndex>
     rows.first().map(|row| row.file_index)
 }
 
-// Adds the ranges of what the sites inside a site cover and its own rows do not, the last run first.
+// Adds the ranges of code that sites inside a site cover and its own rows don't, the last one first.
 fn add_missing(
     alloc: Global,
     inlinees: &BTreeSet<IdIndex>,
@@ -143,7 +143,7 @@ fn add_missing(
     push_added(added, site, first_file(&rows), missing.runs())
 }
 
-// The ranges that are added to sites for what the sites inside them cover and their own rows do not.
+// The ranges that are added to sites, for code that sites inside them cover and their own rows don't.
 pub(crate) fn ranges_added_to_sites(
     alloc: Global,
     inlinees: &BTreeSet<IdIndex>,

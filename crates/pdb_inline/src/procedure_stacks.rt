@@ -1,4 +1,4 @@
-//! The stacks of a procedure's inline ranges: from a table where that is small, else from the list.
+//! `ProcedureStacks`: finds the stack at an offset, in a table if that is small, otherwise in the inline ranges.
 
 ghost use Rattle.std.specs.Prelude.{◌≡◌, ◌+◌, ◌≤◌, true, map, length, slice_get, is_some, Some, IfOk, IfSome};
 ghost use Rattle.std.specs.List.Sorted.{IsSorted};
@@ -16,13 +16,13 @@ use pdb_tables::Probes;
 use std::alloc::{AllocError, Global};
 use std::marker::Model;
 
-// How many positions a table may hold for each range. A range has one for each bound of a range that lies in it, and
-// there are two bounds for each range, so tables are made where bounds lie in at most 32 ranges on average. Compilers
-// stop at much smaller depths, since the code that they put in grows with each; but a list of ranges can be made
-// whose stacks grow with the square of its length, and these must not fill the memory.
+// The maximum number of positions in a table for each range. A range has a position for each bound of a range inside
+// it, and each range has two bounds. So a table is made if a bound is in at most 32 ranges on average. Compilers stay
+// far below this, because the code grows with each inlined body. But a list can be made whose stacks grow with the
+// square of its length, and these must not fill the memory.
 const POSITIONS_FOR_EACH: usize = 64;
 
-// How many of these bounds, which ascend, are below a number.
+// The number of bounds below a number. The bounds are in ascending order.
 fn bounds_below(bounds: &[u64], number: u64) -> usize
     requires { IsSorted nat_cmp bounds.now }
     ensures { result ≡ bounds_below bounds.now number }
@@ -30,7 +30,7 @@ fn bounds_below(bounds: &[u64], number: u64) -> usize
     bounds.partition_point(|bound| *bound < number)
 }
 
-// Whether the stacks of ranges take little enough memory to be held.
+// Whether the stacks of ranges are small enough for a table.
 fn are_stacks_small(alloc: Global, ranges: &[InlineRange]) -> Result<bool, AllocError>
     ensures { IfOk result (λ small. small ≡ are_stacks_small ranges.now) }
 {
@@ -61,17 +61,17 @@ fn ranges_at(
     Ok(found)
 }
 
-/// A list of inline ranges, with a table of the inlined bodies over each offset.
+/// A list of inline ranges, with a table of the inlined bodies at each offset.
 ///
-/// The table is left out where its stacks would be far greater than those of genuine programs: more than 64 positions
-/// for each range. Answers are the same.
+/// There is no table if its stacks would be far greater than those of real programs: more than 64 positions for each
+/// range. Answers are the same in both cases.
 #[derive(Drop)]
 pub struct ProcedureStacks {
     ranges: Vec<InlineRange>,
     table: Option<StackTable>,
 }
 
-// Clauses see it as the list of the ranges.
+// Contracts see it as the list of ranges.
 impl Model for ProcedureStacks {
     ghost use Rattle.std.specs.Prelude.{◌≡◌, List, is_some, IfSome};
     ghost use Rattle.pdb_inline.specs.declared.inline_ranges.InlineRange.{InlineRange};
@@ -89,9 +89,9 @@ impl Model for ProcedureStacks {
 }
 
 impl ProcedureStacks {
-    /// The stacks of a list of ranges, in whatever order they stand. Its time grows with n log n for n ranges.
+    /// Prepares the stacks of a list of ranges, in any order. Takes O(n log n) time for n ranges.
     ///
-    /// Answers `AllocError` where memory runs out.
+    /// `AllocError` if memory runs out.
     pub fn new(alloc: Global, ranges: Vec<InlineRange>) -> Result<Self, AllocError>
         ensures { IfOk result (λ stacks. stacks ≡ ranges.items) }
     {
@@ -103,8 +103,8 @@ impl ProcedureStacks {
         Ok(ProcedureStacks { ranges, table })
     }
 
-    // The positions of the inlined bodies over an offset, where there is a table. Each entry of the table that is
-    // looked at counts.
+    // The positions of the inlined bodies at an offset, if there is a table. `probes` counts the entries of the table
+    // that are compared.
     #[tactic(auto, using(crate::proofs::StackTableLemmas::few_segments))]
     fn search(&self, offset: u64, probes: &mut Probes) -> Option<&[usize]>
         ensures answer { IfSome result (λ positions.
@@ -118,11 +118,10 @@ impl ProcedureStacks {
         }
     }
 
-    /// The inlined bodies over an offset, the outermost first, as [`inline_stack`] has them.
+    /// The inlined bodies at an offset, the outermost first, as [`inline_stack`] finds them.
     ///
-    /// Where there is a table, they are found by one binary search. Each entry of the table that is looked at is
-    /// counted in `probes`: at most two more than the number of ranges has binary digits. Answers `AllocError` where
-    /// memory runs out.
+    /// With a table, they are found by one binary search. `probes` counts the entries of the table that are compared:
+    /// at most two more than the number of ranges has binary digits. `AllocError` if memory runs out.
     #[tactic(auto, using(crate::proofs::StackLemmas::ranges_at_are))]
     pub fn stack(
         &self,

@@ -1,4 +1,4 @@
-//! The bounds of inline ranges: where they start and end, in order.
+//! The bounds of inline ranges, their starts and ends, in sorted order.
 
 ghost use Rattle.std.specs.Prelude.{◌≡◌, ℕ, IfOk};
 ghost use Rattle.std.specs.List.Sorted.{IsPermutation, IsSorted};
@@ -8,7 +8,7 @@ ghost use Rattle.pdb_inline.specs.RangeBounds.{bounds};
 use crate::inline_ranges::InlineRange;
 use std::alloc::{AllocError, Global};
 
-// Where ranges start and end.
+// The starts and ends of ranges.
 fn bounds(alloc: Global, ranges: &[InlineRange]) -> Result<Vec<u64>, AllocError>
     ensures { IfOk result (λ v. v.items ≡ bounds ranges.now) }
 {
@@ -20,7 +20,7 @@ fn bounds(alloc: Global, ranges: &[InlineRange]) -> Result<Vec<u64>, AllocError>
     Ok(all)
 }
 
-// Where ranges start and end, in order.
+// The starts and ends of ranges, in ascending order.
 pub(crate) fn sorted_bounds(alloc: Global, ranges: &[InlineRange]) -> Result<Vec<u64>, AllocError>
     ensures all { IfOk result (λ v. IsPermutation (bounds ranges.now) v.items) }
     ensures sorted { IfOk result (λ v. IsSorted nat_cmp v.items) }

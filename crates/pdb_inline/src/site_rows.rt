@@ -1,4 +1,4 @@
-//! The rows of inline sites: which of them count, where their code ends, and the ranges of their code.
+//! Selects the rows of inline sites that count, and gives the ranges of their code.
 
 ghost use Rattle.std.specs.Prelude.{◌≡◌, map, IfOk};
 ghost use Rattle.pdb_inline.specs.SiteRows.{has_id, row_length, row_end, rows_with_code, counted_rows, row_range};
@@ -7,21 +7,21 @@ use pdb_records::{IdIndex, InlineRow, InlineSiteSymbol};
 use std::alloc::{AllocError, Global};
 use std::collections::BTreeSet;
 
-// Whether an id is one of these.
+// Whether an id is among the inlinees.
 fn is_inlinee(inlinees: &BTreeSet<IdIndex>, id: IdIndex) -> bool
     ensures { result ≡ has_id inlinees.now.keys id }
 {
     inlinees.contains(&id)
 }
 
-// The size of a row's code, 0 where it is not known.
+// The size of a row's code; 0 if it isn't known.
 fn row_length(row: &InlineRow) -> u32
     ensures { result ≡ row_length row.now }
 {
     row.length.unwrap_or(0)
 }
 
-// Where a row's code ends.
+// The end of a row's code.
 pub(crate) fn row_end(row: &InlineRow) -> u64
     ensures { result ≡ row_end row.now }
 {
@@ -41,7 +41,7 @@ fn rows_with_code(alloc: Global, rows: &[InlineRow]) -> Result<Vec<InlineRow>, A
     Ok(counted)
 }
 
-// The rows of a site that count: none where its id is not among the inlinees.
+// The rows of a site that have code; none if its id isn't among the inlinees.
 pub(crate) fn counted_rows(
     alloc: Global,
     inlinees: &BTreeSet<IdIndex>,
@@ -55,7 +55,7 @@ pub(crate) fn counted_rows(
     rows_with_code(alloc, &symbol.rows.items)
 }
 
-// The code of rows, each from its first byte to the one past its last.
+// The range of each row's code: its start, and the offset just after its last byte.
 pub(crate) fn ranges_of_rows(
     alloc: Global,
     rows: &[InlineRow],

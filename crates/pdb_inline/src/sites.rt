@@ -1,4 +1,4 @@
-//! The walk over a procedure's symbols that finds its inline sites and their depths.
+//! Walks over a procedure's symbols, and finds its inline sites and their depths.
 
 ghost use Rattle.std.specs.Prelude.{◌≡◌, ◌+◌, ◌-◌, ◌^◌, ◌++◌, drop, length, min, nat_lt, map};
 ghost use Rattle.std.specs.Prelude.{reverse, option_map, option_to_list, Option, Some, None, OnOk};
@@ -16,13 +16,13 @@ use std::alloc::{AllocError, Global};
 pub(crate) struct Site<'a> {
     // The position of its symbol.
     pub(crate) position: usize,
-    // How many sites it is inside of.
+    // The number of sites that contain it.
     pub(crate) depth: usize,
-    // What its symbol holds.
+    // The content of its symbol.
     pub(crate) symbol: &'a InlineSiteSymbol,
 }
 
-// What a symbol holds, where it opens a site.
+// The content of a symbol, if it opens a site.
 fn site_symbol(symbol: &Symbol) -> Option<&InlineSiteSymbol>
     ensures { option_copied result ≡ site_of symbol.now }
 {
@@ -35,7 +35,7 @@ fn site_symbol(symbol: &Symbol) -> Option<&InlineSiteSymbol>
     }
 }
 
-// The end of the procedure that a symbol shows, where it shows one.
+// The end of the procedure that a symbol opens, if it opens one.
 fn procedure_end(symbol: &Symbol) -> Option<SymbolIndex>
     ensures { option_map (λ end. end.0) result ≡ nested_end symbol.now }
 {
@@ -48,7 +48,7 @@ fn procedure_end(symbol: &Symbol) -> Option<SymbolIndex>
     }
 }
 
-// Where the walk goes on after the symbol at a position: behind the end of a procedure that it shows.
+// The next position of the walk. A procedure inside this one is skipped to its end.
 fn position_after(at: usize, symbol: &Symbol) -> usize
     ensures { result ≡ min (through_after at (nested_end symbol.now) at + 1) (2 ^ 64 - 1) }
 {
@@ -59,7 +59,7 @@ fn position_after(at: usize, symbol: &Symbol) -> usize
     through.saturating_add(1)
 }
 
-// Where what is open ends first: the innermost site, or the procedure where no site is open.
+// The next end: that of the innermost open site, or of the procedure if no site is open.
 fn first_end(procedure_end: usize, outer: &[Site<'_>]) -> usize
     ensures { result ≡ innermost_end procedure_end (reverse (map open_site outer.now)) }
 {
@@ -69,7 +69,7 @@ fn first_end(procedure_end: usize, outer: &[Site<'_>]) -> usize
     }
 }
 
-// Finds and opens the site of the symbol at a position, where it has one.
+// Opens the site of the symbol at a position, if it opens one.
 fn open_at<'a>(
     at: usize,
     symbol: &'a Symbol,
@@ -94,7 +94,7 @@ fn open_at<'a>(
     Ok(())
 }
 
-// Closes the innermost of what is open. `false` where no site is: that closes the procedure.
+// Closes the innermost open site. `false` if no site is open: then the procedure is closed.
 #[tactic(auto, using(crate::proofs::SiteLemmas::closed_rest))]
 fn close_innermost(outer: &mut Vec<Site<'_>>) -> bool
     ensures answer { result ≡ nat_lt 0 (length outer.old.items) }

@@ -1,4 +1,4 @@
-//! Tables of the stacks of inlined bodies over each offset, found by a binary search.
+//! `StackTable`: a table of the stacks of inlined bodies by offset, for a binary search.
 
 ghost use Rattle.std.specs.Prelude.{◌≡◌, ℕ, ◌+◌, ◌*◌, ◌≤◌, [], length, IfOk, OnOk, if◌then◌else◌};
 ghost use Rattle.pdb_tables.specs.Probes.{digits};
@@ -14,17 +14,17 @@ use pdb_tables::{Probes, Segments};
 use std::alloc::{AllocError, Global};
 use std::marker::Model;
 
-/// A table of the inlined bodies over each offset, by their positions in a list of ranges.
+/// A table of the inlined bodies at each offset, by their positions in a list of ranges.
 ///
-/// It holds a whole stack of positions for each segment of code that has one stack.
+/// For each segment of code with the same stack, it has all positions of that stack.
 #[derive(Drop)]
 pub struct StackTable {
-    // Where the stack of a number begins and ends among the positions.
+    // For each offset, where its stack begins and ends in `positions`.
     segments: Segments<(usize, usize)>,
     positions: Vec<usize>,
 }
 
-// Clauses see a table as its segments, which show the positions over each number.
+// Contracts see a table as its segments, which have the positions at each offset.
 impl Model for StackTable {
     ghost use Rattle.std.specs.Prelude.{ℕ, List, length};
     ghost use Rattle.pdb_tables.specs.declared.segment.Segment.{Segment};
@@ -39,12 +39,12 @@ impl Model for StackTable {
 }
 
 impl StackTable {
-    /// The table of a list of ranges, in whatever order they stand. Of equal ranges it has the position of the first.
+    /// Makes the table of a list of ranges, in any order. Of equal ranges it has the position of the first.
     ///
-    /// Its time grows with (n + s) log n for n ranges and stacks of s positions in all. For ranges that nest in one
-    /// another s may grow with the square of n; [`ProcedureStacks`](crate::ProcedureStacks) has a bound on it.
+    /// Takes O((n + s) log n) time for n ranges whose stacks have s positions in all. If ranges are nested deeply, s
+    /// may grow with the square of n; [`ProcedureStacks`](crate::ProcedureStacks) bounds it.
     ///
-    /// Answers `AllocError` where memory runs out.
+    /// `AllocError` if memory runs out.
     pub fn new(alloc: Global, ranges: &[InlineRange]) -> Result<Self, AllocError>
         ensures stacks { IfOk result (λ table. HasStacks ranges.now table) }
         ensures positions { IfOk result (λ table. (x : ℕ) → stack_over table x ≡ inline_positions ranges.now x) }
@@ -63,8 +63,8 @@ impl StackTable {
         self.segments.len()
     }
 
-    /// The positions of the ranges over an offset that [`inline_stack`](crate::inline_stack) picks, the outermost
-    /// first. It is a binary search that takes no memory, and counts each segment that it looks at.
+    /// The positions of the ranges that [`inline_stack`](crate::inline_stack) picks at an offset, the outermost first.
+    /// It is a binary search that allocates nothing. `probes` counts the segments that are compared.
     pub fn find(&self, offset: u64, probes: &mut Probes) -> &[usize]
         ensures answer { result.now ≡ stack_over self.now offset }
         ensures no_fewer { probes.old ≤ probes.new }
@@ -76,7 +76,7 @@ impl StackTable {
         }
     }
 
-    // Gives the numbers from `lo` up to the one before `hi` the positions that the tables have for `lo`.
+    // Gives the offsets from `lo` up to, but not including, `hi` the positions that the tables have for `lo`.
     fn paint(&mut self, tables: &[Segments<usize>], lo: u64, hi: u64) -> Result<(), AllocError>
         ensures state { OnOk result ((x : ℕ) → stack_over self.new x
             ≡ (if is_within lo hi x then positions_in tables.now lo else stack_over self.old x)) }
@@ -88,7 +88,7 @@ impl StackTable {
     }
 }
 
-// The table of what tables for each depth have for each number, which changes at the bounds alone.
+// The table of the stacks in the tables of each depth. These change only at the bounds.
 fn stacks_between(
     alloc: Global,
     tables: &[Segments<usize>],

@@ -1,9 +1,9 @@
--- The value that a text is.
+-- The JSON value of a text.
 use Rattle.std.specs.Prelude.{ℕ, List, Option, None, if◌then◌else◌}
 use Rattle.std.specs.Str.{is_utf8}
 use Rattle.serde_json.specs.Data.{Data}
 use Rattle.serde_json.specs.Read.{read}
 
--- the value that a text is, where it is UTF-8 and a JSON text
+-- the JSON value of a text, if it is UTF-8 and JSON
 abbrev pub json_of : List ℕ → Option Data
 json_of bytes = if is_utf8 bytes then read bytes else None

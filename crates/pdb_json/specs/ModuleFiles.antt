@@ -8,28 +8,28 @@ use Rattle.pdb_json_values.specs.RecordFault.{Fault, ◌>>=◌, read_inside}
 use Rattle.pdb_json_values.specs.Values.{text_of, array_of}
 use Rattle.pdb_json_records.specs.Members.{has, member_of}
 
--- the bytes of files
+-- the contents of files, as bytes
 abbrev pub contents : List (Vec ℕ Global) → List (List ℕ)
 contents files = map (λ file. file.items) files
 
--- whether an element of `module_infos` stands for a module file: it names one, and is no failed stream
+-- whether an element of `module_infos` names a module file: it has the name of one, and no error
 abbrev pub stands_for_file : ℕ → Data → Bool
 stands_for_file version d =
     has (codes "file") d && (not (has (codes "error") d) && has_module_files version)
 
--- the name of the module file that an element stands for, where it stands for one
+-- the name of the module file in an element, if it has one
 unfoldable pub module_file_name_of : ℕ → Data → Result (Option (List ℕ)) Fault
 module_file_name_of version d =
     if stands_for_file version d
     then (member_of (codes "file") text_of d >>= λ name. Ok (Some name))
     else Ok None
 
--- a name, where there is one, before others
+-- a list of names, after one more if there is one
 abbrev pub with_name : Option (List ℕ) → List (List ℕ) → List (List ℕ)
 with_name None names = names
 with_name (Some name) names = name ∷ names
 
--- the names that elements have, the first of which has this number
+-- the names of module files in elements; the first element has this number
 abbrev pub module_file_names_from : ℕ → ℕ → Items → Result (List (List ℕ)) Fault
 module_file_names_from version number no_items = Ok []
 module_file_names_from version number (item d ds) = do
@@ -37,13 +37,13 @@ module_file_names_from version number (item d ds) = do
   names ← module_file_names_from version (number + 1) ds
   Ok (with_name name names)
 
--- the names of the module files that the elements of an array stand for, in order
+-- the names of the module files in the elements of an array, in order
 unfoldable pub module_file_names_of : ℕ → Data → Result (List (List ℕ)) Fault
 module_file_names_of version d = do
   ds ← array_of d
   module_file_names_from version 0 ds
 
--- the names of the module files of a file of a version: in the first version there are none, whatever the file holds
+-- the names of the module files in a file of this version; none in the first version, whatever the file has
 unfoldable pub module_file_names_in_version : ℕ → Data → Result (List (List ℕ)) Fault
 module_file_names_in_version version file =
     if has_module_files version then member_of (codes "module_infos") (module_file_names_of version) file else Ok []

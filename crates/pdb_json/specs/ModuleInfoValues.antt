@@ -1,4 +1,4 @@
--- What is known of each module, in a records file and in its module files.
+-- The records of each module, in a records file and in its module files.
 use Rattle.std.specs.Prelude.{ℕ, ◌+◌, List, [], ◌∷◌, Option, Some, None, Result, Ok, Err, get_or}
 use Rattle.std.specs.Prelude.{decimal, if◌then◌else◌, codes}
 use Rattle.serde_json.specs.Data.{Data, Items, no_items, item}
@@ -11,16 +11,16 @@ use Rattle.pdb_json_records.specs.Modules.{info_of}
 use Rattle.pdb_json.specs.Json.{json_of}
 use Rattle.pdb_json.specs.ModuleFiles.{stands_for_file}
 
--- what is known of a module: a stream, which may hold nothing
+-- the records of a module, `None` if it has none, or why they can't be read
 abbrev pub Known : Type 0
 Known = Result (Option ModuleInfo) StreamError
 
--- a stream that holds what is known
+-- the records of a module file as those of a module
 abbrev pub holding : Result ModuleInfo StreamError → Known
 holding (Ok info) = Ok (Some info)
 holding (Err fault) = Err fault
 
--- an element that stands for itself: a stream of info, or null where nothing is known
+-- an element that has the records of a module itself: a stream of info, or null if there are none
 unfoldable pub own_info_of : ℕ → Data → Result Known Fault
 own_info_of version d = stream_of (optional_of (info_of version)) d
 
@@ -30,27 +30,27 @@ module_stream_of version d = do
   stream ← stream_of (info_of version) d
   Ok (holding stream)
 
--- what is in the value of a module file, where there is one
+-- the records in the value of a module file, if there is one
 abbrev pub module_in : ℕ → Option Data → Result Known Fault
 module_in version None = Err (module_not_json [])
 module_in version (Some d) = module_stream_of version d
 
--- what the bytes of a module file say
+-- the records in the bytes of a module file
 unfoldable pub module_file_of : ℕ → List ℕ → Result Known Fault
 module_file_of version bytes = module_in version (json_of bytes)
 
--- an element, with the bytes of the module file that comes next: these are read where it stands for a module file
+-- the records of an element; if it names a module file, those in the bytes of the next module file
 unfoldable pub info_with : ℕ → List ℕ → Data → Result Known Fault
 info_with version bytes d =
     if stands_for_file version d
     then read_inside (codes "file") (module_file_of version bytes)
     else own_info_of version d
 
--- how many module files are read once this element is
+-- the number of module files that have been read after this element
 abbrev pub read_after : ℕ → ℕ → Data → ℕ
 read_after version done d = if stands_for_file version d then done + 1 else done
 
--- what is known by elements, the first of which has this number, where so many of the module files are read
+-- the records of elements; the first has this number, and `done` module files were read before it
 abbrev pub infos_from : ℕ → List (List ℕ) → (number done : ℕ) → Items → Result (List Known) Fault
 infos_from version files number done no_items = Ok []
 infos_from version files number done (item d ds) = do
@@ -58,7 +58,7 @@ infos_from version files number done (item d ds) = do
   infos ← infos_from version files (number + 1) (read_after version done d) ds
   Ok (info ∷ infos)
 
--- what is known of each module, by an array and the module files that its elements stand for, in order
+-- the records of each module, by an array and the module files that its elements name, in order
 unfoldable pub infos_of : ℕ → List (List ℕ) → Data → Result (List Known) Fault
 infos_of version files d = do
   ds ← array_of d

@@ -11,15 +11,15 @@ use Rattle.pdb_json.specs.Versions.{file_version_of}
 use Rattle.pdb_json.specs.ModuleFiles.{module_file_names_in_version}
 use Rattle.pdb_json.specs.ModuleInfoValues.{infos_of}
 
--- all records of a file of a version and of its module files, or the first fault. What differs between the versions is
--- what a name may be (`name_of`) and what an element of `module_infos` may be (`stands_for_file`)
+-- all records of a file of this version and of its module files, or the first fault. The versions differ only in the
+-- form of names (`name_of`) and in whether an element of `module_infos` may name a file (`stands_for_file`)
 unfoldable pub records_in_version : ℕ → List (List ℕ) → Data → Result Records Fault
 records_in_version version files file = do
   records ← shared_records_of version file
   infos ← member_of (codes "module_infos") (infos_of version files) file
   Ok (record records { module_infos = infos })
 
--- what is read with so many module files, where so many are wanted
+-- a result, if as many module files are given as wanted; otherwise a fault
 abbrev pub counted : {X : Type 0} → (wanted given : ℕ) → Result X Fault → Result X Fault
 counted wanted given read = if wanted == given then read else Err (module_files wanted given)
 
@@ -31,7 +31,7 @@ records_of files d = do
   names ← module_file_names_in_version version file
   counted (length names) (length files) (records_in_version version files file)
 
--- what is in a value, where there is one
+-- the result of reading a value; a fault if the text is no JSON
 abbrev pub in_json : {X : Type 0} → (Data → Result X Fault) → Option Data → Result X Fault
 in_json read None = Err not_json
 in_json read (Some d) = read d
@@ -40,7 +40,7 @@ in_json read (Some d) = read d
 abbrev pub value_of : List ℕ → Result Data Fault
 value_of bytes = in_json Ok (json_of bytes)
 
--- the records that a file and its module files hold, or the first fault in them
+-- the records in a file and its module files, or the first fault in them
 unfoldable pub records_of_files : List ℕ → List (List ℕ) → Result Records Fault
 records_of_files bytes files = do
   value ← value_of bytes
@@ -53,8 +53,7 @@ wanted_files_of d = do
   version ← file_version_of file
   module_file_names_in_version version file
 
--- the names of the module files that a file wants, in the order in which they are read, or the first fault where
--- they can't be answered
+-- the names of the module files that a file wants, in reading order; or the first fault if they can't be read
 unfoldable pub module_files_of : List ℕ → Result (List (List ℕ)) Fault
 module_files_of bytes = do
   value ← value_of bytes

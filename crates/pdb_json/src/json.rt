@@ -1,4 +1,4 @@
-//! The value that bytes are, where they are a JSON text.
+//! Parses bytes as JSON.
 
 ghost use Rattle.std.specs.Prelude.{◌≡◌, option_map, IfOk};
 ghost use Rattle.serde_json.specs.View.{view};
@@ -7,7 +7,7 @@ ghost use Rattle.pdb_json.specs.Json.{json_of};
 use serde_json::Value;
 use std::alloc::{AllocError, Global};
 
-// The value that bytes are, where they are UTF-8 and a JSON text.
+// Parses bytes as JSON; `None` if they aren't UTF-8 or not a JSON text.
 pub(crate) fn json(alloc: Global, bytes: &[u8]) -> Result<Option<Value>, AllocError>
     ensures { IfOk result (λ value. option_map view value ≡ json_of bytes.now) }
 {

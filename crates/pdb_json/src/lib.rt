@@ -1,10 +1,9 @@
-//! The records file: all records of a program as one JSON text, or as one and a text for each module.
+//! Reads records files: all records of a program as one JSON text, or as one and a module file for each module.
 //!
-//! [`read_records`] and [`read_records_with`] read versions 1 and 2 of the format, and [`module_files`] answers
-//! which module files a file names; a [`RecordsFile`] does both and reads its text once. What texts mean is a
-//! definition, `records_of_files` in `specs/RecordsFile.antt`: the records, or the first fault with its path. What
-//! the file is made of is read by `pdb_json_records`, and values and faults are those of `pdb_json_values`. What
-//! follows from the definitions is in [`records_file_laws`].
+//! [`read_records`] and [`read_records_with`] read versions 1 and 2 of the format. [`module_files`] returns the module
+//! files that a file names. A [`RecordsFile`] does both, and parses its text once. The meaning of texts is defined by
+//! `records_of_files` in `specs/RecordsFile.antt`: the records, or the first fault with its path. `pdb_json_records`
+//! reads the parts of the file, and `pdb_json_values` its values. Laws on the definitions are in [`records_file_laws`].
 #![tactic(auto)]
 
 mod json;

@@ -1,4 +1,4 @@
-//! Reads the names of the module files that a records file wants.
+//! Reads the names of the module files in a records file.
 
 ghost use Rattle.std.specs.Prelude.{◌≡◌};
 ghost use Rattle.serde_json.specs.View.{view};
@@ -11,14 +11,14 @@ use pdb_json_values::{Reader, RecordFault, array};
 use serde_json::Value;
 use std::marker::Model;
 
-// Whether an element of `module_infos` stands for a module file.
+// Whether an element of `module_infos` names a module file.
 pub(crate) fn stands_for_file(reader: Reader, value: &Value) -> bool
     ensures { result ≡ stands_for_file reader.version (view value.now) }
 {
     value.get("file").is_some() && value.get("error").is_none() && reader.has_module_files()
 }
 
-// The name of a module file, where an element stands for one.
+// The name of a module file, if an element names one.
 #[derive(Drop)]
 struct ModuleFileName {
     name: Option<String>,
@@ -80,7 +80,7 @@ impl FromJson for ModuleFileNames {
     }
 }
 
-// Reads the names of the module files that a file of the reader's version wants.
+// Reads the names of the module files in a records file of the reader's version.
 #[tactic(auto, unfolding(crate::specs::ModuleFiles::module_file_names_in_version))]
 pub(crate) fn module_file_names(
     reader: Reader,

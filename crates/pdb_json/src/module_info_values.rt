@@ -1,4 +1,4 @@
-//! Reads what is known of each module, from the records file and from its module files.
+//! Reads the records of each module, from the records file and from its module files.
 
 ghost use Rattle.std.specs.Prelude.{◌≡◌, ◌<◌, ◌+◌, ◌^◌, [], get_or};
 ghost use Rattle.pdb_json.specs.ModuleFiles.{contents};
@@ -15,10 +15,10 @@ use pdb_records::{ModuleInfo, StreamError};
 use serde_json::Value;
 use std::marker::Model;
 
-// What is known of a module: a stream, which may hold nothing.
+// The records of a module, `None` if it has none, or why they can't be read.
 type Known = Result<Option<ModuleInfo>, StreamError>;
 
-// What is known of each module.
+// The records of each module.
 #[derive(Drop)]
 pub(crate) struct AllKnown {
     pub infos: Vec<Known>,
@@ -33,7 +33,7 @@ impl Model for AllKnown {
     ghost view = { λ i. i.infos.items };
 }
 
-// A stream that holds what is known.
+// The records of a module file as those of a module.
 fn holding(stream: Result<ModuleInfo, StreamError>) -> Known
     ensures { result ≡ holding stream }
 {
@@ -43,7 +43,7 @@ fn holding(stream: Result<ModuleInfo, StreamError>) -> Known
     }
 }
 
-// Reads an element that stands for itself.
+// Reads an element that has the records of a module itself.
 #[tactic(auto, unfolding(crate::specs::ModuleInfoValues::own_info_of))]
 fn own_info(reader: Reader, value: &Value) -> Result<Known, RecordFault>
     ensures { Agrees result (own_info_of reader.version (view value.now)) }
@@ -60,7 +60,7 @@ fn module_stream(reader: Reader, value: &Value) -> Result<Known, RecordFault>
     Ok(holding(stream))
 }
 
-// Reads a module file. Its value is given back at the end.
+// Reads a module file. Its JSON value is freed at the end.
 #[tactic(auto, unfolding(crate::specs::ModuleInfoValues::module_file_of))]
 fn module_file(reader: Reader, bytes: &[u8]) -> Result<Known, RecordFault>
     ensures { Agrees result (module_file_of reader.version bytes.now) }
@@ -73,7 +73,7 @@ fn module_file(reader: Reader, bytes: &[u8]) -> Result<Known, RecordFault>
     }
 }
 
-// Reads an element, or the module file that comes next where the element stands for one.
+// Reads an element, or the next module file if the element names one.
 #[tactic(auto, unfolding(crate::specs::ModuleInfoValues::info_with))]
 fn info_with(reader: Reader, bytes: &[u8], value: &Value) -> Result<Known, RecordFault>
     ensures { Agrees result (info_with reader.version bytes.now (view value.now)) }
@@ -85,7 +85,7 @@ fn info_with(reader: Reader, bytes: &[u8], value: &Value) -> Result<Known, Recor
     }
 }
 
-// The bytes of the module file of this number. There are none past the last.
+// The bytes of the module file with this number; empty after the last one.
 fn file_bytes(files: &[Vec<u8>], number: usize) -> &[u8]
     ensures { result.now ≡ get_or (contents files.now) number [] }
 {
@@ -95,7 +95,7 @@ fn file_bytes(files: &[Vec<u8>], number: usize) -> &[u8]
     }
 }
 
-// How many module files are read once this element is.
+// How many module files have been read after this element.
 fn read_after(reader: Reader, done: usize, value: &Value) -> usize
     requires { done + 1 < 2 ^ 64 }
     ensures { result ≡ read_after reader.version done (view value.now) }
@@ -107,8 +107,7 @@ fn read_after(reader: Reader, done: usize, value: &Value) -> usize
     }
 }
 
-// Reads what is known of each module from elements and from the module files. Each element is given back before
-// the next is read.
+// Reads the records of each module from elements and module files. Each element is freed before the next one is read.
 fn all_known(reader: Reader, files: &[Vec<u8>], values: Vec<Value>) -> Result<AllKnown, RecordFault>
     ensures { Agrees result (infos_from reader.version (contents files.now) 0 0 (items_view values.items)) }
 {
@@ -123,7 +122,7 @@ fn all_known(reader: Reader, files: &[Vec<u8>], values: Vec<Value>) -> Result<Al
     Ok(AllKnown { infos })
 }
 
-// Reads what is known of each module from an array and from the module files.
+// Reads the records of each module from an array and from the module files.
 #[tactic(auto, unfolding(crate::specs::ModuleInfoValues::infos_of, pdb_json_values::specs::Values::array_of))]
 pub(crate) fn infos(
     reader: Reader,

@@ -21,7 +21,7 @@ use pdb_records::PDB;
 use serde_json::Value;
 use std::alloc::Global;
 
-// What a file is read with whose version is not known yet.
+// The reader for a file whose version isn't known yet.
 fn first_reader(alloc: Global) -> Reader {
     Reader {
         alloc,
@@ -29,7 +29,7 @@ fn first_reader(alloc: Global) -> Reader {
     }
 }
 
-// Takes the values of modules out of a file: null where there are none. All else of the file is given back.
+// Takes the value of `module_infos` out of a file, or null if there is none. The rest of the file is freed.
 fn module_values(mut file: Value) -> Value
     ensures { view result ≡ unwrap_or (get (codes "module_infos") (view file)) null }
 {
@@ -39,7 +39,7 @@ fn module_values(mut file: Value) -> Value
     }
 }
 
-// Reads what is known of each module from a file of the reader's version and from its module files.
+// Reads the records of each module from a file of the reader's version and from its module files.
 #[tactic(auto, unfolding(pdb_json_records::specs::Members::member_of))]
 fn module_infos(reader: Reader, files: &[Vec<u8>], file: Value) -> Result<AllKnown, RecordFault>
     ensures { Agrees result
@@ -61,7 +61,7 @@ fn file_records(reader: Reader, files: &[Vec<u8>], file: Value) -> Result<PDB, R
     Ok(records)
 }
 
-// Reads all records where so many module files are wanted as are given.
+// Reads all records, if as many module files are given as the file names.
 fn counted_records(
     reader: Reader,
     names: &[String],
@@ -81,8 +81,8 @@ fn counted_records(
     }
 }
 
-/// A records file as JSON values, of which nothing else was read: what asks for its module files first, and then
-/// for the records of them all, reads its text once.
+/// A parsed records file whose records aren't read yet. A caller can ask for its module files, and then for all
+/// records, without parsing the text twice.
 ///
 /// ```
 /// let text = br#"{"version":2,"sections":null,"address_map":[],"global_symbols":[],
@@ -97,18 +97,18 @@ fn counted_records(
 /// ```
 #[derive(Drop)]
 pub struct RecordsFile {
-    /// What its records are made with.
+    /// The allocator for its records.
     pub alloc: Global,
-    /// The whole text.
+    /// The parsed JSON value of the whole text.
     pub value: Value,
 }
 
 impl RecordsFile {
-    /// Reads the text of a records file, and nothing of its records yet.
+    /// Parses the text of a records file, without reading its records yet.
     ///
     /// # Errors
     ///
-    /// [`RecordFault::NotJson`] where the bytes are no JSON text, and [`RecordFault::OutOfMemory`].
+    /// [`RecordFault::NotJson`] if the bytes aren't a JSON text, and [`RecordFault::OutOfMemory`].
     pub fn from_slice(alloc: Global, bytes: &[u8]) -> Result<RecordsFile, RecordFault>
         ensures { AgreesBy (λ file. view file.value) result (value_of bytes.now) }
     {
@@ -129,12 +129,12 @@ impl RecordsFile {
         module_file_names(Reader { alloc, version }, file)
     }
 
-    /// The names of the module files that the file wants, in the order in which [`RecordsFile::read_records`]
-    /// takes them. A name that is named twice is there twice.
+    /// The names of the module files in the file, in the order in which [`RecordsFile::read_records`] takes them. A
+    /// name that occurs twice is listed twice.
     ///
     /// # Errors
     ///
-    /// Those of [`module_files`], but [`RecordFault::NotJson`].
+    /// Those of [`module_files`] except [`RecordFault::NotJson`].
     pub fn module_files(&self) -> Result<Vec<String>, RecordFault>
         ensures { AgreesBy (λ names. map string_bytes names.items) result (wanted_files_of (view self.now.value)) }
     {
@@ -146,7 +146,7 @@ impl RecordsFile {
     ///
     /// # Errors
     ///
-    /// Those of [`read_records_with`], but [`RecordFault::NotJson`].
+    /// Those of [`read_records_with`] except [`RecordFault::NotJson`].
     #[tactic(auto, unfolding(crate::specs::RecordsFile::records_of))]
     pub fn read_records(self, files: &[Vec<u8>]) -> Result<PDB, RecordFault>
         ensures { Agrees result (records_of (contents files.now) (view self.value)) }
@@ -160,18 +160,18 @@ impl RecordsFile {
     }
 }
 
-/// Reads all records of a program from a records file, which is a JSON text, and from the module files that
-/// it names, in the order of [`module_files`].
+/// Reads all records of a program from a records file, which is a JSON text, and from the module files that it names,
+/// in the order of [`module_files`].
 ///
-/// Members are read in the order of the format and elements in theirs, and the first fault is the
-/// answer: [`RecordFault::NotJson`] where the bytes are no JSON text, [`RecordFault::Shape`] where
-/// a value is absent or of another sort, and [`RecordFault::NumberOutOfRange`] where a number is not
-/// whole or doesn't fit. But what [`module_files`] refuses comes before all other faults, and then
-/// [`RecordFault::ModuleFiles`] where the file names another number of module files than was given.
-/// [`RecordFault::ModuleNotJson`] has the path of the member `file` that names a file which is no JSON text.
-/// [`RecordFault::OutOfMemory`] may come at any time. Reading takes time in proportion to the texts. JSON values
-/// are given back as they are read: those of the shared records before the first module is read, and those of a
-/// module, or of its module file, before the next is.
+/// Members and elements are read in order, and the first fault is returned: [`RecordFault::NotJson`] if the bytes
+/// aren't a JSON text, [`RecordFault::Shape`] if a value is missing or of the wrong kind, and
+/// [`RecordFault::NumberOutOfRange`] if a number isn't whole or doesn't fit. The faults of [`module_files`] come before
+/// all others, and then [`RecordFault::ModuleFiles`] if the file names another number of module files than was given.
+/// [`RecordFault::ModuleNotJson`] has the path of the member `file` that names a file which isn't a JSON text.
+/// [`RecordFault::OutOfMemory`] is possible at any time.
+///
+/// Reading takes time in proportion to the texts. JSON values are freed while reading: those of the shared records
+/// before the first module is read, and those of a module, or of its module file, before the next one is.
 ///
 /// ```
 /// let text = br#"{"version":2,"sections":null,"address_map":[],"global_symbols":[],
@@ -190,8 +190,8 @@ pub fn read_records_with(alloc: Global, bytes: &[u8], files: &[Vec<u8>]) -> Resu
     file.read_records(files)
 }
 
-/// Reads all records of a program from a records file that names no module files: as [`read_records_with`]
-/// does where no files are given.
+/// Reads all records of a program from a records file that names no module files, as [`read_records_with`] does if no
+/// files are given.
 ///
 /// ```
 /// let text = br#"{"sections":null,"address_map":[],"global_symbols":[],
@@ -207,14 +207,14 @@ pub fn read_records(alloc: Global, bytes: &[u8]) -> Result<PDB, RecordFault>
     read_records_with(alloc, bytes, &[])
 }
 
-/// The names of the module files that a records file wants, in the order in which
-/// [`read_records_with`] takes them. A name that is named twice is there twice.
+/// The names of the module files in a records file, in the order in which [`read_records_with`] takes them. A name that
+/// occurs twice is listed twice.
 ///
 /// # Errors
 ///
-/// [`RecordFault::NotJson`], and [`RecordFault::Shape`] for the root, for `version`, for `module_infos` that
-/// are no array, and for a `file` that is no text. Nothing else of the file is looked at, and of a file of the
-/// first version nothing past `version`. [`RecordFault::OutOfMemory`] may come at any time.
+/// [`RecordFault::NotJson`]; and [`RecordFault::Shape`] for the root, for `version`, for `module_infos` if it isn't an
+/// array, and for a `file` that isn't a string. Nothing else of the file is checked, and of a file of the first version
+/// nothing after `version`. [`RecordFault::OutOfMemory`] is possible at any time.
 #[tactic(auto, unfolding(crate::specs::RecordsFile::module_files_of))]
 pub fn module_files(alloc: Global, bytes: &[u8]) -> Result<Vec<String>, RecordFault>
     ensures { AgreesBy (λ names. map string_bytes names.items) result (module_files_of bytes.now) }

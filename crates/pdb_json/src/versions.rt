@@ -1,4 +1,4 @@
-//! Reads the version of the format that a records file names.
+//! Reads the version of a records file.
 
 ghost use Rattle.serde_json.specs.View.{view};
 ghost use Rattle.pdb_json_values.specs.RecordFault.{Agrees};
@@ -9,7 +9,7 @@ use pdb_json_values::{FIRST_VERSION, Reader, RecordFault, SECOND_VERSION, wanted
 use serde_json::Value;
 use std::marker::Model;
 
-// The version of the format that a file names.
+// The version of the format in a file.
 #[derive(Drop)]
 struct Version {
     number: u8,
@@ -46,7 +46,7 @@ impl FromJson for Version {
     }
 }
 
-// Reads the version of a file: the one that it names, or else the first.
+// Reads the version of a file: the one that it names, or else the first one.
 #[tactic(auto, unfolding(crate::specs::Versions::file_version_of))]
 pub(crate) fn file_version(reader: Reader, file: &Value) -> Result<u8, RecordFault>
     ensures { Agrees result (file_version_of (view file.now)) }

@@ -1,4 +1,4 @@
--- The records of a file but for those of modules, in a version of the format.
+-- The records of a file except those of modules, in a version of the format.
 use Rattle.std.specs.Prelude.{ℕ, List, [], Option, Result, Ok, Err, if◌then◌else◌, codes}
 use Rattle.serde_json.specs.Data.{Data}
 use Rattle.pdb_records.specs.Records.{Records}
@@ -14,14 +14,14 @@ use Rattle.pdb_json_records.specs.Types.{type_of}
 use Rattle.pdb_json_records.specs.Ids.{id_of}
 use Rattle.pdb_json_records.specs.Strings.{string_of}
 
--- the headers of the sections: null where there are none, but the member must be there
+-- the headers of the sections: null if there are none, but the member must be there
 unfoldable pub sections_of : Data → Result (Result (Option (List ImageSectionHeader)) StreamError) Fault
 sections_of d =
     if has (codes "sections") d
     then member_of (codes "sections") (stream_of (optional_of (list_of section_of))) d
     else Err (shape (codes "/sections") (codes "array"))
 
--- the records of a file of a version with nothing known of any module, or the first fault
+-- the records of a file of this version, without those of modules, or the first fault
 unfoldable pub shared_records_of : ℕ → Data → Result Records Fault
 shared_records_of version file = do
   sections ← sections_of file

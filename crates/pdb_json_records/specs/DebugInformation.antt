@@ -1,4 +1,4 @@
--- What was compiled into a program, and where it went.
+-- Debug information: the machine, the modules and the section contributions.
 use Rattle.std.specs.Prelude.{ℕ, List, [], ◌∷◌, Result, Ok, unwrap_or, codes}
 use Rattle.serde_json.specs.Data.{Data}
 use Rattle.pdb_records.specs.declared.debug_information.MachineType.{MachineType}
@@ -13,7 +13,7 @@ use Rattle.pdb_json_records.specs.NameValues.{name_of, variant_named}
 use Rattle.pdb_json_records.specs.Members.{member_of, reading_of, stream_of}
 use Rattle.pdb_json_records.specs.Sections.{section_offset_of}
 
--- the processors that have names
+-- the names of processors
 abbrev pub machines : List (List ℕ × MachineType)
 machines =
     (codes "Amd64", machine.Amd64)
@@ -23,7 +23,7 @@ machines =
     ∷ (codes "RiscV128", machine.RiscV128)
     ∷ []
 
--- a processor; a text that names none of these is another one
+-- a processor; any other text means another one
 unfoldable pub machine_of : Data → Result MachineType Fault
 machine_of d = do
   name ← text_of d
@@ -36,7 +36,7 @@ module_of version d = do
   name ← member_of (codes "name") (name_of version) entry
   Ok (record { name = name })
 
--- bytes of a section that came from one module
+-- a section contribution of a module
 unfoldable pub contribution_of : Data → Result SectionContribution Fault
 contribution_of d = do
   contribution ← object_of d
@@ -45,7 +45,7 @@ contribution_of d = do
   from ← member_of (codes "module") u32_of contribution
   Ok (record { offset = offset; size = size; «module» = from })
 
--- the processor, the modules, and what came from them
+-- the debug information: the processor, the modules, and the section contributions
 unfoldable pub debug_information_of : ℕ → Data → Result DebugInformation Fault
 debug_information_of version d = do
   debug ← object_of d

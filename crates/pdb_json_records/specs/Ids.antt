@@ -14,7 +14,7 @@ use Rattle.pdb_json_records.specs.Members.{member_of, optional_of, list_of}
 use Rattle.pdb_json_records.specs.Symbols.{type_index_of, id_index_of}
 use Rattle.pdb_json_records.specs.Types.{kind_name_of}
 
--- a function of a class
+-- the id of a method
 unfoldable pub member_function_id_of : ℕ → Data → Result MemberFunctionId Fault
 member_function_id_of version d = do
   parent ← member_of (codes "parent") type_index_of d
@@ -22,7 +22,7 @@ member_function_id_of version d = do
   name ← member_of (codes "name") (name_of version) d
   Ok (record { parent = parent; function_type = function_type; name = name })
 
--- a function of no class
+-- the id of a function outside classes
 unfoldable pub function_id_of : ℕ → Data → Result FunctionId Fault
 function_id_of version d = do
   scope ← member_of (codes "scope") (optional_of id_index_of) d
@@ -30,17 +30,17 @@ function_id_of version d = do
   name ← member_of (codes "name") (name_of version) d
   Ok (record { scope = scope; function_type = function_type; name = name })
 
--- a text, as the name of a namespace
+-- the id of a text, such as the name of a namespace
 unfoldable pub string_id_of : ℕ → Data → Result StringId Fault
 string_id_of version d = do
   name ← member_of (codes "name") (name_of version) d
   Ok (record { name = name })
 
--- a text in pieces
+-- the id of a text in pieces
 unfoldable pub substrings_of : Data → Result (List TypeIndex) Fault
 substrings_of d = member_of (codes "substrings") (list_of type_index_of) d
 
--- what an id says whose kind has this name
+-- an id whose kind has this name
 unfoldable pub id_named : ℕ → List ℕ → Data → Result IdData Fault
 id_named version kind d =
     if is_name (codes "MemberFunction") kind
@@ -51,7 +51,7 @@ id_named version kind d =
     else if is_name (codes "Other") kind then (kind_name_of d >>= λ said. Ok (held.Other said))
     else Err unknown_kind
 
--- what an id says: its kind, and the members of that kind
+-- an id: its kind, and the members of that kind
 unfoldable pub id_of : ℕ → Data → Result IdData Fault
 id_of version d = do
   entry ← object_of d

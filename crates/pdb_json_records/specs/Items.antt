@@ -10,19 +10,19 @@ use Rattle.pdb_json_values.specs.Values.{object_of}
 use Rattle.pdb_json_values.specs.JsonNumbers.{u16_of}
 use Rattle.pdb_json_records.specs.Members.{has, member_of, reading_of, stream_error_of}
 
--- a stream that failed
+-- the error of a stream that can't be read
 unfoldable pub failed_stream_of : Data → Result Error Fault
 failed_stream_of d = do
   fault ← member_of (codes "stream") stream_error_of d
   Ok (Stream fault)
 
--- a kind that was not read
+-- the error of a kind that isn't read
 unfoldable pub unimplemented_kind_of : Data → Result Error Fault
 unimplemented_kind_of d = do
   kind ← member_of (codes "unimplemented") u16_of d
   Ok (UnimplementedTypeKind kind)
 
--- why an entry could not be read: its stream failed, or else its kind is not known
+-- why an entry can't be read: its stream can't be read, or its kind is unknown
 unfoldable pub error_of : Data → Result Error Fault
 error_of d = do
   error ← object_of d
@@ -32,7 +32,7 @@ error_of d = do
       then unimplemented_kind_of error
       else Err (shape [] (codes "kind"))
 
--- what an entry says, or with a member `error` why it could not be read
+-- the content of an entry; with a member `error`, why it can't be read
 unfoldable pub content_of : {D : Type 0} → (Data → Result D Fault) → Data → Result (Result D Error) Fault
 content_of read d =
     if has (codes "error") d
@@ -40,7 +40,7 @@ content_of read d =
     else (read d >>= λ said. Ok (Ok said))
 
 module _ {I D : Type 0} where
-  -- an entry: its index, and what it says
+  -- an entry: its index and its content
   unfoldable pub item_of : (Data → Result I Fault) → (Data → Result D Fault) → Data → Result (Item I D) Fault
   item_of number read d = do
     entry ← object_of d

@@ -13,7 +13,7 @@ use Rattle.pdb_json_records.specs.Sections.{section_offset_of}
 use Rattle.pdb_json_records.specs.Symbols.{file_index_of}
 use Rattle.pdb_json_records.specs.Strings.{string_ref_of}
 
--- the code from an offset on comes from a line
+-- a line row: the code from an offset on belongs to a line
 unfoldable pub line_info_of : Data → Result LineInfo Fault
 line_info_of d = do
   line ← object_of d

@@ -1,4 +1,4 @@
--- What is known of a module.
+-- The records of a module.
 use Rattle.std.specs.Prelude.{ℕ, Result, Ok, codes}
 use Rattle.serde_json.specs.Data.{Data}
 use Rattle.pdb_records.specs.Imports.{Imported}
@@ -12,13 +12,13 @@ use Rattle.pdb_json_records.specs.Symbols.{symbol_of, id_index_of}
 use Rattle.pdb_json_records.specs.Lines.{line_program_of}
 use Rattle.pdb_json_records.specs.Strings.{string_ref_of}
 
--- a function whose body stands in the module's code
+-- a function that is inlined in the module's code
 unfoldable pub inlinee_of : Data → Result Inlinee Fault
 inlinee_of d = do
   index ← id_index_of d
   Ok (record { index = index })
 
--- what the module takes from one other: a reference to that one's name, and the numbers there
+-- the module's imports from another one: a reference to that one's name, and the numbers there
 unfoldable pub import_of : Data → Result Imported Fault
 import_of d = do
   imported ← object_of d
@@ -26,7 +26,7 @@ import_of d = do
   locals ← member_of (codes "locals") (list_of u32_of) imported
   Ok (record { module_name = name; locals = locals })
 
--- what the module offers: a number of its own, and the index of the type or id
+-- an export of the module: a number of its own, and the index of the type or id
 unfoldable pub export_of : Data → Result (ℕ × ℕ) Fault
 export_of d = do
   exported ← object_of d
@@ -34,7 +34,7 @@ export_of d = do
   global ← member_of (codes "global") u32_of exported
   Ok (own, global)
 
--- what is known of a module
+-- the records of a module
 unfoldable pub info_of : ℕ → Data → Result ModuleInfo Fault
 info_of version d = do
   info ← object_of d

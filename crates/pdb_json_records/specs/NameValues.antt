@@ -10,11 +10,11 @@ use Rattle.pdb_json_values.specs.Values.{text_of}
 use Rattle.pdb_json_values.specs.JsonNumbers.{u8_of}
 use Rattle.pdb_json_records.specs.Members.{list_of}
 
--- a name: a text, or in a version that has names in bytes an array of these
+-- a name: a text, or an array of bytes in a version that allows this
 unfoldable pub name_of : ℕ → Data → Result (List ℕ) Fault
 name_of version d = if is_some (as_array d) && has_names_in_bytes version then list_of u8_of d else text_of d
 
--- what is wrong with a kind whose name is not known
+-- the fault for a kind whose name is unknown
 abbrev pub unknown_kind : Fault
 unknown_kind = shape (codes "/kind") (codes "kind")
 
@@ -23,11 +23,11 @@ abbrev pub is_name : List ℕ → List ℕ → Bool
 is_name known name = pointwise nat_eq name known
 
 module _ {X : Type 0} where
-  -- what the first entry of this name stands for
+  -- the variant of the first entry with this name
   abbrev pub variant_named : List ℕ → List (List ℕ × X) → Option X
   variant_named name names = option_map (λ entry. entry.1) (find (λ entry. pointwise nat_eq entry.0 name) names)
 
-  -- the variant, where the text names one
+  -- the variant, or a fault if the text names none
   abbrev pub known : Option X → Result X Fault
   known None = Err (shape [] (codes "kind"))
   known (Some variant) = Ok variant

@@ -26,7 +26,7 @@ range_of d = do
   size ← member_of (codes "virtual_size") u32_of range
   Ok (record { virtual_address = address; virtual_size = size })
 
--- a section offset, whose section and offset stand under two names of an object
+-- a section offset, whose section and offset are members of an object with these names
 unfoldable pub section_offset_of : (section offset : List ℕ) → Data → Result PdbInternalSectionOffset Fault
 section_offset_of section offset d = do
   number ← member_of section u16_of d

@@ -46,7 +46,7 @@ symbol_index_of d = do
   n ← u32_of d
   Ok (record { 0 = n })
 
--- a name that is visible outside its module
+-- a public symbol
 unfoldable pub public_of : ℕ → Data → Result PublicSymbol Fault
 public_of version d = do
   offset ← section_offset_of (codes "section") (codes "offset") d
@@ -63,7 +63,7 @@ procedure_of version d = do
   type_index ← member_of (codes "type_index") type_index_of d
   Ok (record { offset = offset; len = len; name = name; end = end; type_index = type_index })
 
--- code of a procedure that stands apart from its body
+-- separated code of a procedure
 unfoldable pub separated_code_of : Data → Result SeparatedCodeSymbol Fault
 separated_code_of d = do
   offset ← section_offset_of (codes "section") (codes "offset") d
@@ -72,7 +72,7 @@ separated_code_of d = do
   end ← member_of (codes "end") symbol_index_of d
   Ok (record { offset = offset; len = len; parent_offset = parent_offset; end = end })
 
--- short code that leads to a procedure
+-- a thunk: short code that jumps to a procedure
 unfoldable pub thunk_of : ℕ → Data → Result ThunkSymbol Fault
 thunk_of version d = do
   offset ← section_offset_of (codes "section") (codes "offset") d
@@ -81,7 +81,7 @@ thunk_of version d = do
   end ← member_of (codes "end") symbol_index_of d
   Ok (record { offset = offset; len = len; name = name; end = end })
 
--- bytes of an inlined body's code, and where they come from
+-- a row of an inline site: a range of code, with its file and line
 unfoldable pub row_of : Data → Result InlineRow Fault
 row_of d = do
   row ← object_of d
@@ -91,7 +91,7 @@ row_of d = do
   line_start ← member_of (codes "line_start") u32_of row
   Ok (record { offset = offset; length = length; file_index = file_index; line_start = line_start })
 
--- a place where a call was replaced by the callee's body
+-- an inline site: a place where a call was replaced by the callee's body
 unfoldable pub inline_site_of : Data → Result InlineSiteSymbol Fault
 inline_site_of d = do
   inlinee ← member_of (codes "inlinee") id_index_of d
@@ -99,7 +99,7 @@ inline_site_of d = do
   rows ← member_of (codes "rows") (reading_of row_of) d
   Ok (record { inlinee = inlinee; end = end; rows = rows })
 
--- what a symbol holds whose kind has this name
+-- the content of a symbol whose kind has this name
 unfoldable pub data_named : ℕ → List ℕ → Data → Result SymbolData Fault
 data_named version kind d =
     if is_name (codes "Public") kind then (public_of version d >>= λ symbol. Ok (held.Public symbol))
@@ -110,14 +110,14 @@ data_named version kind d =
     else if is_name (codes "Other") kind then Ok held.Other
     else Err unknown_kind
 
--- what a symbol holds: its kind, and the members of that kind
+-- the content of a symbol: its kind, and the members of that kind
 unfoldable pub data_of : ℕ → Data → Result SymbolData Fault
 data_of version d = do
   symbol ← object_of d
   kind ← member_of (codes "kind") text_of symbol
   data_named version kind symbol
 
--- a symbol: the number of its kind, and what it holds, where that could be read
+-- a symbol: the number of its kind, and its content if that could be read
 unfoldable pub symbol_of : ℕ → Data → Result Symbol Fault
 symbol_of version d = do
   symbol ← object_of d
@@ -125,7 +125,7 @@ symbol_of version d = do
   content ← member_of (codes "data") (optional_of (data_of version)) symbol
   Ok (record { raw_kind = raw_kind; content = content })
 
--- the symbols of the whole program
+-- the global symbols
 unfoldable pub symbol_table_of : ℕ → Data → Result SymbolTable Fault
 symbol_table_of version d = do
   symbols ← reading_of (symbol_of version) d

@@ -29,7 +29,7 @@ use Rattle.pdb_json_records.specs.NameValues.{name_of, variant_of, unknown_kind,
 use Rattle.pdb_json_records.specs.Members.{member_of, optional_of, list_of}
 use Rattle.pdb_json_records.specs.Symbols.{type_index_of}
 
--- the names of the types that the compiler brings
+-- the names of primitive types
 abbrev pub primitive_kinds : List (List ℕ × PrimitiveKind)
 primitive_kinds =
     (codes "NoType", primitive.NoType)
@@ -85,7 +85,7 @@ class_kinds =
     ∷ (codes "Struct", class.Struct)
     ∷ []
 
--- the names of the ways to point
+-- the names of pointer modes
 abbrev pub pointer_modes : List (List ℕ × PointerMode)
 pointer_modes =
     (codes "Pointer", mode.Pointer)
@@ -95,7 +95,7 @@ pointer_modes =
     ∷ (codes "RValueReference", mode.RValueReference)
     ∷ []
 
--- a type that the compiler brings, or a pointer to one
+-- a primitive type, or a pointer to one
 unfoldable pub primitive_of : Data → Result PrimitiveType Fault
 primitive_of d = do
   kind ← member_of (codes "primitive") (variant_of primitive_kinds) d
@@ -118,7 +118,7 @@ class_of version d = do
     forward_reference = forward_reference;
   })
 
--- the type of a function that belongs to a class
+-- the type of a method
 unfoldable pub member_function_of : Data → Result MemberFunctionType Fault
 member_function_of d = do
   return_type ← member_of (codes "return_type") type_index_of d
@@ -134,7 +134,7 @@ member_function_of d = do
     argument_list = argument_list;
   })
 
--- the type of a function that belongs to no class
+-- the type of a function outside classes
 unfoldable pub procedure_type_of : Data → Result ProcedureType Fault
 procedure_type_of d = do
   return_type ← member_of (codes "return_type") (optional_of type_index_of) d
@@ -202,7 +202,7 @@ enumerate_of version d = do
   value ← member_of (codes "value") number_of d
   Ok (record { name = name; value = value })
 
--- a type with `const` before it, or without
+-- a modifier: a type with or without `const`
 unfoldable pub modifier_of : Data → Result ModifierType Fault
 modifier_of d = do
   underlying_type ← member_of (codes "underlying_type") type_index_of d
@@ -213,11 +213,11 @@ modifier_of d = do
 unfoldable pub arguments_of : Data → Result (List TypeIndex) Fault
 arguments_of d = member_of (codes "arguments") (list_of type_index_of) d
 
--- what a kind is called that is read and not printed
+-- the name of a kind that is read but not printed
 unfoldable pub kind_name_of : Data → Result (List ℕ) Fault
 kind_name_of d = member_of (codes "kind_name") text_of d
 
--- what a type says whose kind has this name
+-- a type whose kind has this name
 unfoldable pub type_named : ℕ → List ℕ → Data → Result TypeData Fault
 type_named version kind d =
     if is_name (codes "Primitive") kind then (primitive_of d >>= λ said. Ok (held.Primitive said))
@@ -234,7 +234,7 @@ type_named version kind d =
     else if is_name (codes "Other") kind then (kind_name_of d >>= λ said. Ok (held.Other said))
     else Err unknown_kind
 
--- what a type says: its kind, and the members of that kind
+-- a type: its kind, and the members of that kind
 unfoldable pub type_of : ℕ → Data → Result TypeData Fault
 type_of version d = do
   entry ← object_of d

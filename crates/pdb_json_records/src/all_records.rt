@@ -1,4 +1,4 @@
-//! Reads all records of a records file but for those of modules.
+//! Reads all records of a records file except those of modules.
 
 ghost use Rattle.serde_json.specs.View.{view};
 ghost use Rattle.pdb_records.specs.Sections.{listed};
@@ -10,10 +10,10 @@ use pdb_json_values::{Reader, RecordFault, inside, wanted};
 use pdb_records::{ImageSectionHeader, PDB, StreamError};
 use serde_json::Value;
 
-// The headers of the sections, where the file has any.
+// The section headers, if the file has any.
 type Sections = Result<Option<Vec<ImageSectionHeader>>, StreamError>;
 
-// Reads the headers of the sections. The member may be null, and may not be absent.
+// Reads the section headers. The member may be null, but must not be missing.
 #[tactic(auto, unfolding(crate::specs::AllRecords::sections_of))]
 fn sections(reader: Reader, file: &Value) -> Result<Sections, RecordFault>
     ensures { AgreesBy listed result (sections_of (view file.now)) }
@@ -31,10 +31,10 @@ fn sections(reader: Reader, file: &Value) -> Result<Sections, RecordFault>
     })
 }
 
-/// Reads the records that stand before those of modules, from a file of the reader's version. Of no module
-/// anything is known in the answer.
+/// Reads the records before those of modules, from a file of the reader's version. The list of modules' records stays
+/// empty.
 ///
-/// Members are read in the order of the format, and the first fault is the answer.
+/// Members are read in the order of the format, and the first fault is returned.
 #[tactic(auto, unfolding(crate::specs::AllRecords::shared_records_of))]
 pub fn shared_records(reader: Reader, file: &Value) -> Result<PDB, RecordFault>
     ensures { Agrees result (shared_records_of reader.version (view file.now)) }

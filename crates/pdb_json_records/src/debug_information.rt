@@ -9,7 +9,7 @@ use pdb_json_values::{Reader, RecordFault, object, text};
 use pdb_records::{DebugInformation, MachineType, Module, SectionContribution};
 use serde_json::Value;
 
-/// The names of the processors that have one of their own.
+/// The names of the machines that the format knows.
 pub const MACHINES: [(&str, MachineType); 5] = [
     ("Amd64", MachineType::Amd64),
     ("Arm64", MachineType::Arm64),

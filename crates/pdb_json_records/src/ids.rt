@@ -1,4 +1,4 @@
-//! Reads ids: functions of classes and of none, and texts.
+//! Reads ids: member functions, other functions, and strings.
 
 ghost use Rattle.serde_json.specs.View.{view};
 ghost use Rattle.pdb_json_values.specs.RecordFault.{Agrees};
@@ -14,7 +14,7 @@ use pdb_records::{
 };
 use serde_json::Value;
 
-// Reads a function of a class.
+// Reads a member function.
 #[tactic(auto, unfolding(crate::specs::Ids::member_function_id_of))]
 fn member_function(reader: Reader, object: &Value) -> Result<MemberFunctionId, RecordFault>
     ensures { Agrees result (member_function_id_of reader.version (view object.now)) }
@@ -26,7 +26,7 @@ fn member_function(reader: Reader, object: &Value) -> Result<MemberFunctionId, R
     })
 }
 
-// Reads a function of no class.
+// Reads a function that isn't a member.
 #[tactic(auto, unfolding(crate::specs::Ids::function_id_of))]
 fn function(reader: Reader, object: &Value) -> Result<FunctionId, RecordFault>
     ensures { Agrees result (function_id_of reader.version (view object.now)) }
@@ -38,7 +38,7 @@ fn function(reader: Reader, object: &Value) -> Result<FunctionId, RecordFault>
     })
 }
 
-// Reads a text, as the name of a namespace.
+// Reads a string, such as the name of a namespace.
 #[tactic(auto, unfolding(crate::specs::Ids::string_id_of))]
 fn string(reader: Reader, object: &Value) -> Result<StringId, RecordFault>
     ensures { Agrees result (string_id_of reader.version (view object.now)) }
@@ -48,7 +48,7 @@ fn string(reader: Reader, object: &Value) -> Result<StringId, RecordFault>
     })
 }
 
-// Reads a text in pieces.
+// Reads a string in pieces.
 #[tactic(auto, unfolding(crate::specs::Ids::substrings_of))]
 fn string_list(reader: Reader, object: &Value) -> Result<StringListId, RecordFault>
     ensures { Agrees result (substrings_of (view object.now)) }
@@ -59,7 +59,7 @@ fn string_list(reader: Reader, object: &Value) -> Result<StringListId, RecordFau
     })
 }
 
-// Reads what an id says whose kind has this name.
+// Reads the content of an id, by the name of its kind.
 #[tactic(auto, unfolding(crate::specs::Ids::id_named))]
 fn id_data(reader: Reader, kind: &str, object: &Value) -> Result<IdData, RecordFault>
     ensures { Agrees result (id_named reader.version kind.now (view object.now)) }

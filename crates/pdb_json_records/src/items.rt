@@ -1,4 +1,4 @@
-//! Reads the lists of types and ids: each entry has an index and what it says, or why it has none.
+//! Reads the lists of types and ids: each entry has an index, and its content or why it can't be read.
 
 ghost use Rattle.serde_json.specs.View.{view};
 ghost use Rattle.pdb_json_values.specs.RecordFault.{Agrees};
@@ -10,7 +10,7 @@ use pdb_json_values::{Reader, RecordFault, object, wanted};
 use pdb_records::{Error, Item, ItemInformation};
 use serde_json::Value;
 
-// Reads the number of a stream that failed.
+// Reads the error of an entry that can't be read, by the number of a stream's error.
 #[tactic(auto, unfolding(crate::specs::Items::failed_stream_of))]
 fn failed_stream(reader: Reader, object: &Value) -> Result<Error, RecordFault>
     ensures { Agrees result (failed_stream_of (view object.now)) }
@@ -18,7 +18,7 @@ fn failed_stream(reader: Reader, object: &Value) -> Result<Error, RecordFault>
     Ok(Error::Stream(member(reader, object, "stream")?))
 }
 
-// Reads the number of a kind that was not read.
+// Reads the error of an entry with an unknown kind, by the kind's number.
 #[tactic(auto, unfolding(crate::specs::Items::unimplemented_kind_of))]
 fn unimplemented_kind(reader: Reader, object: &Value) -> Result<Error, RecordFault>
     ensures { Agrees result (unimplemented_kind_of (view object.now)) }
@@ -42,7 +42,7 @@ impl FromJson for Error {
     }
 }
 
-// Reads what an entry says, or why it could not be read.
+// Reads the content of an entry, or why it can't be read.
 #[tactic(auto, unfolding(crate::specs::Items::content_of))]
 fn content<D: FromJson>(reader: Reader, entry: &Value) -> Result<Result<D, Error>, RecordFault>
     ensures { Agrees result (content_of (D.read reader.version) (view entry.now)) }

@@ -1,10 +1,10 @@
-//! Readers of what a records file is made of: lists, symbols, lines, types, ids, and all of them together.
+//! Readers for the parts of a records file: lists, symbols, lines, types, ids, and all of them together.
 //!
-//! What is known of modules may lie in other files, and the crate above puts it in its place.
+//! The records of modules may be in other files; the crate above inserts them.
 //!
-//! Each object of the format has a definition in `specs/` and a reader here, in a file of its subject: an
-//! `impl` of [`FromJson`] for the record that it becomes. They stand in one crate, since a trait is
-//! implemented for another crate's type only where the trait is.
+//! Each object of the format has a definition in `specs/`, and a reader here in a file of its subject: an `impl` of
+//! [`FromJson`] for the record that it describes. They are in one crate, because a trait can be implemented for another
+//! crate's type only in the crate of the trait.
 #![tactic(auto)]
 
 mod all_records;

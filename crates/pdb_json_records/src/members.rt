@@ -1,4 +1,4 @@
-//! Reads members of objects, arrays, readings with their faults, and streams; `FromJson` for all readers.
+//! `FromJson`, which all record readers implement, and readers for members, arrays, readings and streams.
 
 ghost use Rattle.serde_json.specs.Data.{Data};
 ghost use Rattle.serde_json.specs.View.{view};
@@ -13,17 +13,17 @@ use pdb_records::{Reading, StreamError};
 use serde_json::Value;
 use std::marker::Model;
 
-/// What a value of a records file can be read as.
+/// A type that can be read from a JSON value of a records file.
 pub trait FromJson: Drop {
-    // What the value is in a version of the format, or the first fault in it.
+    // What a JSON value means in a version of the format, or its first fault.
     ghost read: { ℕ → Data → Result Self Fault };
 
-    /// Reads a value. An absent one is read as null is.
+    /// Reads a value. A missing value is read like `null`.
     fn from_json(reader: Reader, value: Option<&Value>) -> Result<Self, RecordFault>
         ensures { Agrees result (read reader.version (found value.entry)) };
 }
 
-/// Reads what the object has under this name.
+/// Reads the member `name` of an object. The path of a fault gets this name.
 #[tactic(auto, unfolding(crate::specs::Members::member_of))]
 pub fn member<T: FromJson>(reader: Reader, object: &Value, name: &str) -> Result<T, RecordFault>
     ensures { Agrees result (member_of name.now (T.read reader.version) (view object.now)) }
@@ -31,7 +31,7 @@ pub fn member<T: FromJson>(reader: Reader, object: &Value, name: &str) -> Result
     inside(reader.alloc, name, T::from_json(reader, object.get(name)))
 }
 
-/// Reads the element of this number.
+/// Reads an element of an array. The path of a fault gets its position, `number`.
 pub fn element<T: FromJson>(reader: Reader, number: usize, value: &Value) -> Result<T, RecordFault>
     ensures { Agrees result (read_inside (decimal number) (T.read reader.version (view value.now))) }
 {
@@ -50,7 +50,7 @@ impl<T: FromJson> FromJson for Option<T> {
     }
 }
 
-// The elements of an array.
+// A list that is read from an array.
 #[derive(Drop)]
 pub(crate) struct Elements<T> {
     pub elements: Vec<T>,
@@ -88,7 +88,7 @@ impl FromJson for StreamError {
     }
 }
 
-// Reads an object with the elements of a list, and perhaps the fault that stands after them.
+// Reads a reading from an object: its `items`, and the `fault` that ended it, if any.
 #[tactic(auto, unfolding(crate::specs::Members::faulty_of))]
 fn faulty<T: FromJson>(reader: Reader, object: &Value) -> Result<Reading<T>, RecordFault>
     ensures { Agrees result (faulty_of (T.read reader.version) (view object.now)) }
@@ -100,7 +100,7 @@ fn faulty<T: FromJson>(reader: Reader, object: &Value) -> Result<Reading<T>, Rec
     })
 }
 
-// Reads an array of a list's elements, after which no fault stands.
+// Reads a complete reading, which has no fault, from an array.
 #[tactic(auto, unfolding(crate::specs::Members::whole_list_of))]
 fn whole_list<T: FromJson>(reader: Reader, value: Option<&Value>) -> Result<Reading<T>, RecordFault>
     ensures { Agrees result (whole_list_of (T.read reader.version) (found value.entry)) }

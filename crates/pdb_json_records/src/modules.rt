@@ -1,4 +1,4 @@
-//! Reads what is known of a module: symbols, line program, inlinees, imports and exports.
+//! Reads the records of a module: symbols, line program, inlinees, imports and exports.
 
 ghost use Rattle.pdb_json_records.specs.Members.{list_of};
 ghost use Rattle.pdb_json_records.specs.Modules.{inlinee_of, import_of, export_of, info_of};
@@ -34,7 +34,7 @@ impl FromJson for ImportedModule {
     }
 }
 
-// What a module offers: a number of its own, and the index of the type or id.
+// An export: a number, and the index of the type or id.
 impl FromJson for (u32, u32) {
     ghost read = { λ _. export_of };
 

@@ -1,4 +1,4 @@
-//! Reads names as bytes or as text, and texts that name a variant.
+//! Reads names as bytes or as strings, and strings that name a variant.
 
 ghost use Rattle.std.specs.Prelude.{◌≡◌, map, codes};
 ghost use Rattle.serde_json.specs.View.{view};
@@ -13,7 +13,7 @@ use pdb_records::RawString;
 use serde_json::Value;
 use std::marker::Model;
 
-// The variant of this name.
+// The variant with this name.
 pub(crate) fn named<T: Copy>(name: &str, names: &[(&str, T)]) -> Option<T>
     ensures { result ≡ variant_named name.now (map (λ entry. (entry.0.now, entry.1)) names.now) }
 {
@@ -25,7 +25,7 @@ pub(crate) fn named<T: Copy>(name: &str, names: &[(&str, T)]) -> Option<T>
     None
 }
 
-// Reads a text that names a variant.
+// Reads a string that names a variant.
 #[tactic(auto, unfolding(crate::specs::NameValues::variant_of))]
 pub(crate) fn variant<T: Copy>(
     reader: Reader,
@@ -55,7 +55,7 @@ pub(crate) fn kind(reader: Reader, object: &Value) -> Result<&str, RecordFault>
     }
 }
 
-// The answer to a kind whose name isn't known.
+// The fault for a kind with an unknown name.
 pub(crate) fn unknown_kind<T: Drop>(reader: Reader) -> Result<T, RecordFault>
     ensures { Agrees result (Err unknown_kind) }
 {
@@ -80,7 +80,7 @@ impl FromJson for RawString {
     }
 }
 
-/// A text of its own.
+/// A string value.
 #[derive(Drop)]
 pub struct Text {
     pub text: String,

@@ -103,7 +103,7 @@ impl FromJson for i64 {
     }
 }
 
-// A position in a list. It fits 32 bits.
+// A position in a list. It must fit 32 bits.
 impl FromJson for usize {
     ghost read = { λ _. u32_of };
 

@@ -1,4 +1,4 @@
-//! Reads the headers of sections, the address map, and section offsets.
+//! Reads section headers, the address map, and section offsets.
 
 ghost use Rattle.std.specs.Prelude.{◌≡◌};
 ghost use Rattle.serde_json.specs.View.{view};
@@ -49,7 +49,7 @@ impl FromJson for AddressMap {
     }
 }
 
-// Reads a section offset, whose section and offset the object has under these names.
+// Reads a section offset from the two members of an object with these names.
 #[tactic(auto, unfolding(crate::specs::Sections::section_offset_of))]
 pub(crate) fn section_offset(
     reader: Reader,

@@ -1,4 +1,4 @@
-//! Reads the string table: texts with their keys.
+//! Reads the string table: strings with their references.
 
 ghost use Rattle.pdb_json_records.specs.Members.{list_of};
 ghost use Rattle.pdb_json_records.specs.Strings.{string_ref_of, string_of};
@@ -17,7 +17,7 @@ impl FromJson for StringRef {
     }
 }
 
-// A text with its key.
+// A string with its reference.
 impl FromJson for (StringRef, RawString) {
     ghost read = { string_of };
 

@@ -52,7 +52,7 @@ impl FromJson for SymbolIndex {
     }
 }
 
-// Reads a name that is visible outside its module.
+// Reads a public symbol.
 #[tactic(auto, unfolding(crate::specs::Symbols::public_of))]
 fn public(reader: Reader, object: &Value) -> Result<PublicSymbol, RecordFault>
     ensures { Agrees result (public_of reader.version (view object.now)) }
@@ -77,7 +77,7 @@ fn procedure(reader: Reader, object: &Value) -> Result<ProcedureSymbol, RecordFa
     })
 }
 
-// Reads code of a procedure that stands apart from its body.
+// Reads separated code.
 #[tactic(auto, unfolding(crate::specs::Symbols::separated_code_of))]
 fn separated_code(reader: Reader, object: &Value) -> Result<SeparatedCodeSymbol, RecordFault>
     ensures { Agrees result (separated_code_of (view object.now)) }
@@ -90,7 +90,7 @@ fn separated_code(reader: Reader, object: &Value) -> Result<SeparatedCodeSymbol,
     })
 }
 
-// Reads short code that leads to a procedure.
+// Reads a thunk.
 #[tactic(auto, unfolding(crate::specs::Symbols::thunk_of))]
 fn thunk(reader: Reader, object: &Value) -> Result<ThunkSymbol, RecordFault>
     ensures { Agrees result (thunk_of reader.version (view object.now)) }
@@ -118,7 +118,7 @@ impl FromJson for InlineRow {
     }
 }
 
-// Reads a place where a call was replaced by the callee's body.
+// Reads an inline site.
 #[tactic(auto, unfolding(crate::specs::Symbols::inline_site_of))]
 fn inline_site(reader: Reader, object: &Value) -> Result<InlineSiteSymbol, RecordFault>
     ensures { Agrees result (inline_site_of (view object.now)) }
@@ -130,7 +130,7 @@ fn inline_site(reader: Reader, object: &Value) -> Result<InlineSiteSymbol, Recor
     })
 }
 
-// Reads what a symbol holds whose kind has this name.
+// Reads the content of a symbol, by the name of its kind.
 #[tactic(auto, unfolding(crate::specs::Symbols::data_named))]
 fn symbol_data(reader: Reader, kind: &str, object: &Value) -> Result<SymbolData, RecordFault>
     ensures { Agrees result (data_named reader.version kind.now (view object.now)) }

@@ -18,7 +18,7 @@ use pdb_records::{
 };
 use serde_json::Value;
 
-/// The names of the types that the compiler brings.
+/// The names of the primitive types.
 pub const PRIMITIVE_KINDS: [(&str, PrimitiveKind); 43] = [
     ("NoType", PrimitiveKind::NoType),
     ("Void", PrimitiveKind::Void),
@@ -73,7 +73,7 @@ impl FromJson for PrimitiveKind {
     }
 }
 
-/// The names of the words that classes are declared with.
+/// The names of the kinds of classes.
 pub const CLASS_KINDS: [(&str, ClassKind); 3] = [
     ("Class", ClassKind::Class),
     ("Interface", ClassKind::Interface),
@@ -88,7 +88,7 @@ impl FromJson for ClassKind {
     }
 }
 
-/// The names of the ways in which pointers point.
+/// The names of the pointer modes.
 pub const POINTER_MODES: [(&str, PointerMode); 5] = [
     ("Pointer", PointerMode::Pointer),
     ("LValueReference", PointerMode::LValueReference),
@@ -105,7 +105,7 @@ impl FromJson for PointerMode {
     }
 }
 
-// Reads a type that the compiler brings, or a pointer to one.
+// Reads a primitive type, or a pointer to one.
 #[tactic(auto, unfolding(crate::specs::Types::primitive_of))]
 fn primitive(reader: Reader, object: &Value) -> Result<PrimitiveType, RecordFault>
     ensures { Agrees result (primitive_of (view object.now)) }
@@ -130,7 +130,7 @@ fn class(reader: Reader, object: &Value) -> Result<ClassType, RecordFault>
     })
 }
 
-// Reads the type of a function that belongs to a class.
+// Reads the type of a member function.
 #[tactic(auto, unfolding(crate::specs::Types::member_function_of))]
 fn member_function(reader: Reader, object: &Value) -> Result<MemberFunctionType, RecordFault>
     ensures { Agrees result (member_function_of (view object.now)) }
@@ -144,7 +144,7 @@ fn member_function(reader: Reader, object: &Value) -> Result<MemberFunctionType,
     })
 }
 
-// Reads the type of a function that belongs to no class.
+// Reads the type of a function that isn't a member.
 #[tactic(auto, unfolding(crate::specs::Types::procedure_type_of))]
 fn procedure_type(reader: Reader, object: &Value) -> Result<ProcedureType, RecordFault>
     ensures { Agrees result (procedure_type_of (view object.now)) }
@@ -208,7 +208,7 @@ fn enumeration(reader: Reader, object: &Value) -> Result<EnumerationType, Record
     })
 }
 
-// Reads a number whose width and sign have this name.
+// Reads a number, by the name of its width and sign.
 #[tactic(auto, unfolding(crate::specs::Types::number_named))]
 fn sized_number(reader: Reader, width: &str, object: &Value) -> Result<Variant, RecordFault>
     ensures { Agrees result (number_named width.now (view object.now)) }
@@ -248,7 +248,7 @@ fn enumerate(reader: Reader, object: &Value) -> Result<EnumerateType, RecordFaul
     })
 }
 
-// Reads a type with `const` before it, or without.
+// Reads a modifier.
 #[tactic(auto, unfolding(crate::specs::Types::modifier_of))]
 fn modifier(reader: Reader, object: &Value) -> Result<ModifierType, RecordFault>
     ensures { Agrees result (modifier_of (view object.now)) }
@@ -270,7 +270,7 @@ fn arguments(reader: Reader, object: &Value) -> Result<ArgumentList, RecordFault
     })
 }
 
-// Reads what a kind is called that is read and not printed.
+// Reads the name of a known kind that isn't printed.
 #[tactic(auto, unfolding(crate::specs::Types::kind_name_of))]
 pub(crate) fn kind_name(reader: Reader, object: &Value) -> Result<Text, RecordFault>
     ensures { Agrees result (kind_name_of (view object.now)) }
@@ -278,7 +278,7 @@ pub(crate) fn kind_name(reader: Reader, object: &Value) -> Result<Text, RecordFa
     member(reader, object, "kind_name")
 }
 
-// Reads what a type says whose kind has this name.
+// Reads the content of a type, by the name of its kind.
 #[tactic(auto, unfolding(crate::specs::Types::type_named))]
 fn type_data(reader: Reader, kind: &str, object: &Value) -> Result<TypeData, RecordFault>
     ensures { Agrees result (type_named reader.version kind.now (view object.now)) }

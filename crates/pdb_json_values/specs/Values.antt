@@ -1,4 +1,4 @@
--- Values of a records file, by their sorts.
+-- Values of a records file, by their kinds.
 use Rattle.std.specs.Prelude.{ℕ, List, [], Bool, Option, Some, None, Result, Ok, Err, codes}
 use Rattle.std.specs.Borrow.{Bor}
 use Rattle.serde_json.specs.Data.{Data, null, Items}
@@ -7,12 +7,12 @@ use Rattle.serde_json.specs.View.{view}
 use Rattle.serde_json.specs.declared.value.Value.{Value}
 use Rattle.pdb_json_values.specs.RecordFault.{Fault, shape, ◌>>=◌}
 
--- a value, or null in the place of one that is absent
+-- a value, or null if it is missing
 abbrev pub found : Option (Bor Value) → Data
 found None = null
 found (Some value) = view value.now
 
--- what there is, where the value is of the sort that is wanted
+-- the value, or a fault if it has the wrong kind
 abbrev pub wanted : {X : Type 0} → List ℕ → Option X → Result X Fault
 wanted sort None = Err (shape [] sort)
 wanted sort (Some x) = Ok x

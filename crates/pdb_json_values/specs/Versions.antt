@@ -5,6 +5,6 @@ use Rattle.std.specs.Prelude.{ℕ, Bool, ◌==◌}
 abbrev pub has_names_in_bytes : ℕ → Bool
 has_names_in_bytes version = version == 2
 
--- whether what is known of a module may lie in a file of its own
+-- whether the records of a module may have a file of their own
 abbrev pub has_module_files : ℕ → Bool
 has_module_files version = version == 2

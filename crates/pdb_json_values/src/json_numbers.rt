@@ -1,4 +1,4 @@
-//! Reads whole numbers of a records file, with a sign or without.
+//! Reads whole numbers of a records file, signed or unsigned.
 
 ghost use Rattle.pdb_json_values.specs.RecordFault.{Agrees};
 ghost use Rattle.pdb_json_values.specs.Values.{found};
@@ -8,7 +8,7 @@ use crate::record_fault::{RecordFault, out_of_range, wanted};
 use crate::value_reader::Reader;
 use serde_json::Value;
 
-/// Reads a whole number from 0 on.
+/// Reads an unsigned whole number.
 #[tactic(auto, unfolding(crate::specs::JsonNumbers::u64_of))]
 pub fn unsigned(reader: Reader, value: Option<&Value>) -> Result<u64, RecordFault>
     ensures { Agrees result (u64_of (found value.entry)) }
@@ -25,7 +25,7 @@ pub fn unsigned(reader: Reader, value: Option<&Value>) -> Result<u64, RecordFaul
     }
 }
 
-/// Reads a whole number, which may be below 0.
+/// Reads a signed whole number.
 #[tactic(auto, unfolding(crate::specs::JsonNumbers::i64_of))]
 pub fn signed(reader: Reader, value: Option<&Value>) -> Result<i64, RecordFault>
     ensures { Agrees result (i64_of (found value.entry)) }

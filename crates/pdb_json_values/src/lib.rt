@@ -1,8 +1,8 @@
-//! Values of a records file by their sorts, and the paths of faults.
+//! Reads values of a records file by their kinds, and builds the paths of faults.
 //!
-//! A [`Reader`] is what each reader of the records file is handed. [`RecordFault`] says where a file is
-//! broken: each reader answers a fault by its path from the value that it reads, and [`inside`] puts the
-//! name of a member in front of it, [`inside_element`] the number of an element.
+//! A [`Reader`] is passed to each function that reads a part of the records file. [`RecordFault`] says where a file is
+//! wrong. Each of these functions returns a fault with its path from the value that it reads. [`inside`] adds the name
+//! of a member before that path, and [`inside_element`] the number of an element.
 #![tactic(auto)]
 
 mod json_numbers;

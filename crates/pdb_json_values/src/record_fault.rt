@@ -1,4 +1,4 @@
-//! Why a records file is refused, with the path to the value that is at fault.
+//! `RecordFault`: why a records file is refused, with the path to the value at fault.
 
 ghost use Rattle.std.specs.Prelude.{◌≡◌, [], Result, IfOk, string_bytes, decimal};
 ghost use Rattle.pdb_json_values.specs.declared.record_fault.RecordFault.TheVariants.{OutOfMemory};
@@ -9,23 +9,23 @@ use thiserror::Error;
 
 /// Why a records file is refused.
 ///
-/// A path has the names of members and the numbers of elements from the whole file to the value,
-/// each after a `/`, as in `/sections/0/execute`. The path of the file itself is empty.
+/// A path has the names of members and the numbers of elements from the whole file to the value, each after a `/`, such
+/// as `/sections/0/execute`. The path of the file itself is empty.
 #[derive(Debug, Drop, Error)]
 pub enum RecordFault {
-    /// The bytes are no JSON text, or no UTF-8, or values nest deeper than 127.
+    /// The bytes aren't a JSON text or aren't UTF-8, or values are nested deeper than 127.
     #[error("not a JSON text")]
     NotJson,
-    /// The records file names another number of module files than was given.
+    /// The records file names more or fewer module files than were given.
     #[error("{wanted} module files wanted, {given} given")]
     ModuleFiles { wanted: usize, given: usize },
-    /// A value is absent, or of another sort than is wanted there.
+    /// A value is missing, or of the wrong kind.
     #[error("{path}: wanted {wanted}")]
     Shape { path: String, wanted: String },
     /// A number is not whole, or doesn't fit.
     #[error("{path}: number out of range")]
     NumberOutOfRange { path: String },
-    /// The bytes of the module file that a member names are no JSON text, or no UTF-8, or nest too deep.
+    /// The bytes of the module file that a member names aren't a JSON text or aren't UTF-8, or are nested too deep.
     #[error("{path}: not a JSON text")]
     ModuleNotJson { path: String },
     /// Memory ran out.
@@ -49,7 +49,7 @@ impl<T: Drop> From<AllocFailed<T>> for RecordFault {
     }
 }
 
-/// The answer of a reader whose value is of another sort than it wants.
+/// The fault for a value of the wrong kind. `sort` says which kind is expected.
 pub fn wanted<T>(alloc: Global, sort: &str) -> Result<T, RecordFault>
     ensures { Agrees result (Err (shape [] sort.now)) }
 {
@@ -59,7 +59,7 @@ pub fn wanted<T>(alloc: Global, sort: &str) -> Result<T, RecordFault>
     })
 }
 
-/// The answer of a reader whose number doesn't fit.
+/// The fault for a number that doesn't fit.
 pub fn out_of_range<T>(alloc: Global) -> Result<T, RecordFault>
     ensures { Agrees result (Err (out_of_range [])) }
 {
@@ -68,14 +68,14 @@ pub fn out_of_range<T>(alloc: Global) -> Result<T, RecordFault>
     })
 }
 
-// The path through this name and on along the rest.
+// The path with this name before the rest.
 fn through(alloc: Global, name: &str, path: &str) -> Result<String, AllocError>
     ensures { IfOk result (λ whole. string_bytes whole ≡ through name.now path.now) }
 {
     format!(in alloc; "/{name}{path}")
 }
 
-/// The answer of a reader, seen from around the member or element that it reads.
+/// The result of reading a member or element. The path of a fault gets its name in front.
 pub fn inside<T>(
     alloc: Global,
     name: &str,
@@ -98,7 +98,7 @@ pub fn inside<T>(
     }
 }
 
-/// The answer of a reader, seen from around the array whose element of this number it reads.
+/// The result of reading an element. The path of a fault gets its number in front.
 pub fn inside_element<T: Drop>(
     alloc: Global,
     number: usize,

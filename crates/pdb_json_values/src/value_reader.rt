@@ -1,17 +1,17 @@
-//! What each reader of a records file is handed, and what the versions of the format have.
+//! `Reader`: what is passed to all functions that read a records file, and what the versions of the format have.
 
 ghost use Rattle.std.specs.Prelude.{◌≡◌};
 ghost use Rattle.pdb_json_values.specs.Versions.{has_names_in_bytes, has_module_files};
 
 use std::alloc::Global;
 
-/// The version of the format that a file has where it names none.
+/// The version of a file that doesn't name one.
 pub const FIRST_VERSION: u8 = 1;
 
 /// The version of the format with names in bytes and with module files.
 pub const SECOND_VERSION: u8 = 2;
 
-/// What each reader is handed: the allocator, and the version of the format that the file has.
+/// The allocator and the version of the file, for all functions that read a part of it.
 #[derive(Clone, Copy)]
 pub struct Reader {
     pub alloc: Global,
@@ -26,7 +26,7 @@ impl Reader {
         self.version == SECOND_VERSION
     }
 
-    /// Whether what is known of a module may lie in a file of its own.
+    /// Whether the records of a module may be in a file of their own.
     pub fn has_module_files(self) -> bool
         ensures { result ≡ has_module_files self.version }
     {

@@ -1,4 +1,4 @@
-//! Reads booleans, texts, arrays and objects of a records file.
+//! Reads booleans, strings, arrays and objects of a records file.
 
 ghost use Rattle.serde_json.specs.View.{view, items_view};
 ghost use Rattle.pdb_json_values.specs.RecordFault.{Agrees, AgreesBy};
@@ -22,7 +22,7 @@ pub fn boolean(reader: Reader, value: Option<&Value>) -> Result<bool, RecordFaul
     }
 }
 
-/// Reads a text.
+/// Reads a string.
 #[tactic(auto, unfolding(crate::specs::Values::text_of))]
 pub fn text(reader: Reader, value: Option<&Value>) -> Result<&str, RecordFault>
     ensures { AgreesBy (λ text. text.now) result (text_of (found value.entry)) }

@@ -1,4 +1,4 @@
--- What was read of a file, and when that is enough.
+-- The parts of a file that were read, and when they are enough.
 use Rattle.std.specs.Prelude.{◌≡◌, ℕ, ◌+◌, ◌-◌, ◌^◌, Bool, true, false, not, ◌&&◌, ◌||◌, List, [], ◌∷◌}
 use Rattle.std.specs.Prelude.{nat_lt, slice_get, unwrap_or, Option, Some, None, Result, Ok, Err, option_map}
 use Rattle.std.specs.List.{list_all}
@@ -25,7 +25,7 @@ use Rattle.pdb_addr2line.specs.ContextInputs.{ContextInputs}
 use Rattle.pdb_addr2line.specs.Lookups.{contribution_at}
 use Rattle.pdb_part_laws.specs.Asked.{Indices, alone, types_behind, sizes_behind, types_behind_id, ids_behind_id}
 
--- what records say of each module
+-- the records of each module
 abbrev pub infos_of : Records → ProviderInfos
 infos_of records module_index named = info_at records module_index
 
@@ -34,14 +34,14 @@ pub record Span : Type 0 where
   pub first : ℕ
   pub read : List Bool
 
--- nothing is left to be read for an index: its entry was read, or the stream has none. An index of 2 ^ 31 or more
--- leads to another module, and is never covered
+-- whether nothing is left to be read for an index: its entry was read, or the stream has none. An index of 2 ^ 31 or
+-- more refers to another module, and is never covered
 abbrev pub is_covered : Span → ℕ → Bool
 is_covered span index =
     nat_lt index (2 ^ 31) && (nat_lt index span.first || unwrap_or (slice_get span.read (index - span.first)) true)
 
 -- what was read of a file: the records so far, whether they are all, a flag for each module, the types, the types whose
--- size is the same as over all records, and the ids
+-- size is the same as in all records, and the ids
 pub record Known : Type 0 where
   pub records : Records
   pub all : Bool
@@ -50,11 +50,11 @@ pub record Known : Type 0 where
   pub sizes : Span
   pub ids : Span
 
--- nothing is left to be read of a module: it was read, or there is none at that index
+-- whether nothing is left to be read of a module: it was read, or there is none at that index
 abbrev pub is_read : Known → ℕ → Bool
 is_read known module_index = unwrap_or (slice_get known.modules module_index) true
 
--- a type was read, and its size is known
+-- whether a type was read, and its size is known
 abbrev pub is_sized : Known → ℕ → Bool
 is_sized known index = is_covered known.types index && is_covered known.sizes index
 
@@ -62,7 +62,7 @@ is_sized known index = is_covered known.types index && is_covered known.sizes in
 abbrev pub indices_of : Known → Indices
 indices_of known = record { types = is_covered known.types; sizes = is_sized known; ids = is_covered known.ids }
 
--- the entries of two streams are the same for each index that is covered, or both streams failed alike
+-- two streams have the same entry for each covered index, or failed with the same fault
 abbrev pub AreAlike : {I D : Type 0} → (I → ℕ) → Span → Result (ItemInformation I D) StreamError
     → Result (ItemInformation I D) StreamError → Type 0
 AreAlike number_of span (Ok part) (Ok whole) = (index : ℕ) → is_covered span index ≡ true
@@ -71,7 +71,7 @@ AreAlike number_of span (Err fault) (Err other) = fault ≡ other
 AreAlike number_of span (Ok part) (Err fault) = ⊥
 AreAlike number_of span (Err fault) (Ok whole) = ⊥
 
--- the definitions of forward references are found alike in two streams, for each index whose size is known
+-- two streams give the same size to the forward reference of each index whose size is known
 abbrev pub AreDefinedAlike : Span → Result (ItemInformation TypeIndex TypeData) StreamError
     → Result (ItemInformation TypeIndex TypeData) StreamError → Type 0
 AreDefinedAlike span (Ok part) (Ok whole) = (index : ℕ) → is_covered span index ≡ true
@@ -79,8 +79,8 @@ AreDefinedAlike span (Ok part) (Ok whole) = (index : ℕ) → is_covered span in
 AreDefinedAlike span (Ok part) (Err fault) = ⊥
 AreDefinedAlike span (Err fault) other = Unit {0}
 
--- what was read is a part of these records: each stream but those of types, ids and modules as a whole, and of these
--- what the flags say
+-- what was read is a part of these records: it has each stream completely, except that of types, ids and modules it has
+-- those with a flag
 pub record IsPartOf (known : Known) (whole : Records) : Type 0 where
   pub all : known.all ≡ true → known.records ≡ whole
   pub sections : known.records.sections ≡ whole.sections
@@ -94,68 +94,68 @@ pub record IsPartOf (known : Known) (whole : Records) : Type 0 where
   pub definitions : AreDefinedAlike known.sizes known.records.type_information whole.type_information
   pub ids : AreAlike (λ i. i.0) known.ids known.records.id_information whole.id_information
 
--- each index of a list passes a test
+-- whether each index of a list of types passes a test
 abbrev pub all_types : (ℕ → Bool) → List TypeIndex → Bool
 all_types is_in indices = list_all (λ index. is_in index.0) indices
 
--- the same of a list of ids
+-- whether each index of a list of ids passes a test
 abbrev pub all_ids : (ℕ → Bool) → List IdIndex → Bool
 all_ids is_in indices = list_all (λ index. is_in index.0) indices
 
--- the types that a type is printed with were read. So were the sizes that it is printed with, and where its own size is
--- known, that of the type underneath
+-- whether everything was read that is needed to print a type and to know its size: the types in it, and the sizes of
+-- its element or of the type underneath
 abbrev pub is_type_closed : Known → ℕ → TypeData → Bool
 is_type_closed known number content =
     all_types (is_covered known.types) (types_behind content) && (
     all_types (is_sized known) (sizes_behind content)
     && (not (is_sized known number) || all_types (is_sized known) (alone (underneath content))))
 
--- the types and ids that an id is printed with were read
+-- whether the types and ids that are printed as parts of an id were read
 abbrev pub is_id_closed : Known → IdData → Bool
 is_id_closed known content =
     all_types (is_covered known.types) (types_behind_id content)
     && all_ids (is_covered known.ids) (ids_behind_id content)
 
--- the same of an entry; one that can't be read is printed with nothing
+-- whether an entry of types is closed; an unreadable one is printed without other entries
 abbrev pub is_type_item_closed : Known → Item TypeIndex TypeData → Bool
 is_type_item_closed known item = option_map_or (is_type_closed known item.index.0) (result_ok item.content) true
 
--- the same of an entry of ids
+-- whether an entry of ids is closed
 abbrev pub is_id_item_closed : Known → Item IdIndex IdData → Bool
 is_id_item_closed known item = option_map_or (is_id_closed known) (result_ok item.content) true
 
--- each entry of a stream passes a test; a stream that failed has none
+-- whether each entry of a stream passes a test; a stream that can't be read has no entries
 abbrev pub all_items : {I D : Type 0} → (Item I D → Bool) → Result (ItemInformation I D) StreamError → Bool
 all_items test (Ok content) = list_all test content.items.items
 all_items test (Err fault) = true
 
--- the ids of the inline sites of a module were read
+-- whether the ids of the inline sites of a module were read
 abbrev pub are_sites_closed : Known → ModuleInfo → Bool
 are_sites_closed known info =
     list_all (λ symbol. all_ids (is_covered known.ids) (alone (option_map (λ site. site.inlinee) (site_of symbol))))
     info.symbols.items
 
--- the types of the procedures of a module were read, and the ids of its inline sites
+-- whether the types of a module's procedures and the ids of its inline sites were read
 abbrev pub is_module_closed : Known → Result (Option ModuleInfo) StreamError → Bool
 is_module_closed known answer =
     list_all (λ p. is_covered known.types p.type_index.0) (provided_procedures answer)
     && option_map_or (are_sites_closed known) (result_unwrap_or answer None) true
 
--- the same of each module from a module index on that was read
+-- whether each module that was read is closed; `module_index` is that of the first in the list
 abbrev pub are_modules_closed : Known → ℕ → List (Result (Option ModuleInfo) StreamError) → Bool
 are_modules_closed known module_index [] = true
 are_modules_closed known module_index (answer ∷ answers) =
     (not (is_read known module_index) || is_module_closed known answer)
     && are_modules_closed known (module_index + 1) answers
 
--- what was read is enough: all was read, or each type and id that a module, a type or an id leads to was read too
+-- whether enough was read: everything, or each type and id to which a module, a type or an id that was read refers
 abbrev pub is_closed : Known → Bool
 is_closed known =
     known.all || (are_modules_closed known 0 known.records.module_infos && (
     all_items (is_type_item_closed known) known.records.type_information
     && all_items (is_id_item_closed known) known.records.id_information))
 
--- the module of the contribution over an address is still to be read
+-- whether the module that owns the code at an address is still to be read
 abbrev pub lacks : Known → ContextInputs Records → ℕ → Bool
 lacks known inputs address =
     option_map_or (λ c. not (is_read known c.module_index)) (contribution_at inputs address) false

@@ -1,4 +1,4 @@
--- Which entries of types and ids a part of the records has like the whole.
+-- Entries of types and ids that a part of the records shares with the whole.
 use Rattle.std.specs.Prelude.{◌≡◌, ℕ, true, Ok}
 use Rattle.pdb_records.specs.Readings.{Read}
 use Rattle.pdb_records.specs.declared.types.Item.{Item}
@@ -12,14 +12,14 @@ use Rattle.pdb_types.specs.Sizes.{underneath}
 use Rattle.pdb_types.specs.TypeInputs.{TypeInputs, LinkInputs, link_inputs}
 use Rattle.pdb_part_laws.specs.Asked.{Indices, TypeAsksAt, IdAsksAt, AreTypesIn, alone}
 
--- an index stands for the same number in both, and both have the same entry under that number
+-- an index resolves to the same number in both, and both have the same entry under that number
 pub record IsSameEntry {I D : Type 0} (number_of : I → ℕ) (link : LinkInputs) (list : Read (Item I D))
     (other_link : LinkInputs) (others : Read (Item I D)) (module_index index : ℕ) : Type 0 where
   pub stands_for : resolved link module_index index ≡ resolved other_link module_index index
   pub has : (number : ℕ) → resolved link module_index index ≡ Ok number
       → entry number_of list number ≡ entry number_of others number
 
--- where a module uses indices of these sets, the part has the same types, sizes and ids for them as the whole
+-- for indices of these sets in a module, the part has the same types, sizes and ids as the whole
 pub record HasSameEntries {P : Type 0} (at : Indices) (info : P → ProviderInfos) (part whole : TypeInputs P)
     (module_index : ℕ) : Type 0 where
   pub flags : part.flags ≡ whole.flags
@@ -36,7 +36,7 @@ pub record HasSameEntries {P : Type 0} (at : Indices) (info : P → ProviderInfo
   pub ids : (index : ℕ) → at.ids index ≡ true
       → IsSameEntry (λ i. i.0) (link_inputs info part) part.ids (link_inputs info whole) whole.ids module_index index
 
--- where a module uses indices of these sets, the entries under them use only indices of the sets again
+-- for indices of these sets in a module, the entries refer only to indices of the sets
 pub record IsClosedFor {P : Type 0} (at : Indices) (info : P → ProviderInfos) (part : TypeInputs P)
     (module_index : ℕ) : Type 0 where
   pub types : (index number : ℕ) (content : TypeData) → at.types index ≡ true

@@ -1,4 +1,4 @@
--- What a context over a part of the records has like the context over the whole.
+-- What a context over a part of the records shares with the context over the whole.
 use Rattle.std.specs.Prelude.{◌≡◌, ℕ, Bool, true, List, Some, IfSome, option_map}
 use Rattle.std.specs.List.{AllByRecursion}
 use Rattle.pdb_records.specs.declared.debug_information.Module.{Module}
@@ -28,7 +28,7 @@ pub record HasSameFront {P : Type 0} (part whole : ContextInputs P) : Type 0 whe
 abbrev pub AreProcedureTypesIn : (ℕ → Bool) → List ModuleProcedure → Type 0
 AreProcedureTypesIn is_in procedures = AllByRecursion (λ p. is_in p.type_index.0 ≡ true) procedures
 
--- where a symbol opens an inline site, the id of the inlined function is in the set
+-- if a symbol opens an inline site, the id of the inlined function is in the set
 abbrev pub IsSiteIdIn : (ℕ → Bool) → Symbol → Type 0
 IsSiteIdIn is_in symbol = AreIdsIn is_in (alone (option_map (λ site. site.inlinee) (site_of symbol)))
 
@@ -36,7 +36,8 @@ IsSiteIdIn is_in symbol = AreIdsIn is_in (alone (option_map (λ site. site.inlin
 abbrev pub AreSiteIdsIn : (ℕ → Bool) → ModuleInfo → Type 0
 AreSiteIdsIn is_in info = AllByRecursion (IsSiteIdIn is_in) info.symbols.items
 
--- the part has the records of a module like the whole, and the entries of types and ids that its functions are named by
+-- the part has the same records of a module as the whole, and the same entries of types and ids for the names of its
+-- functions
 pub record KnowsModule {P : Type 0} (at : Indices) (info : P → ProviderInfos) (part whole : ContextInputs P)
     (module_index : ℕ) : Type 0 where
   pub records : (named : Module) → info part.provider module_index named ≡ info whole.provider module_index named
@@ -46,7 +47,7 @@ pub record KnowsModule {P : Type 0} (at : Indices) (info : P → ProviderInfos) 
   pub entries : HasSameEntries at info part.type_inputs whole.type_inputs module_index
   pub closed : IsClosedFor at info part.type_inputs module_index
 
--- the part knows the module of the contribution over an address, and has the front of the whole
+-- the part has the module that owns the code at an address, and all else before modules as the whole has it
 pub record KnowsAddress {P : Type 0} (info : P → ProviderInfos) (part whole : ContextInputs P) (address : ℕ)
     : Type 0 where
   pub front : HasSameFront part whole

@@ -1,4 +1,4 @@
-//! Whether what was read of a file is enough: no index leads out of it.
+//! `is_closed`: whether the records that were read refer to no record that wasn't.
 
 ghost use Rattle.std.specs.Prelude.{◌≡◌, true};
 ghost use Rattle.std.specs.List.{list_all};
@@ -17,13 +17,13 @@ use pdb_records::{
     TypeInformation,
 };
 
-/// Whether what was read is enough to answer from: all was read, or each type and id that a module, a type or an id
-/// leads to was read too.
+/// Whether the records that were read are enough to answer from: all were read, or each type and id to which a module,
+/// a type or an id refers was read, too.
 ///
-/// Each procedure of a module counts, also one that starts where an earlier one does, though answers need only the
-/// first. So the answer may be `false` where only types of such procedures are left to read.
+/// Each procedure of a module counts, also one that starts where an earlier one does, although answers need only the
+/// first. So the result may be `false` although only types of such procedures are missing.
 ///
-/// Its time grows with the number of symbols, types and ids in memory, and of the indices in them.
+/// Takes time in proportion to the number of symbols, types and ids in memory, and of the indices in them.
 #[tactic(auto, using(crate::proofs::StrictlyClosedLemmas::closed_from_strictly))]
 pub fn is_closed(known: &KnownRecords) -> bool
     ensures answer { result ≡ is_strictly_closed known.now }
@@ -71,7 +71,7 @@ fn is_info_closed(known: &KnownRecords, info: &ModuleInfo) -> bool
         && are_sites_closed(known, info)
 }
 
-// Whether the types of the procedures that symbols show were read.
+// Whether the types of the procedures among the symbols were read.
 fn are_procedure_types_read(known: &KnownRecords, symbols: &[Symbol]) -> bool
     ensures { result ≡ list_all (is_procedure_type_read known.now) symbols.now }
 {
@@ -102,7 +102,7 @@ fn are_inlinees_read(known: &KnownRecords, symbols: &[Symbol]) -> bool
     true
 }
 
-// Whether each type is closed; types that failed have no entries.
+// Whether each type is closed; also if the types can't be read.
 fn are_types_closed(known: &KnownRecords, types: &Result<TypeInformation, StreamError>) -> bool
     ensures { result ≡ all_items (is_type_item_closed known.now) types.now }
 {
@@ -123,7 +123,7 @@ fn are_type_items_closed(known: &KnownRecords, items: &[Item<TypeIndex, TypeData
     true
 }
 
-// Whether a type is closed; one that can't be read is printed with nothing.
+// Whether a type is closed; also if it can't be read, because then it refers to nothing.
 fn is_type_item_closed(known: &KnownRecords, item: &Item<TypeIndex, TypeData>) -> bool
     ensures { result ≡ is_type_item_closed known.now item.now }
 {
@@ -133,7 +133,7 @@ fn is_type_item_closed(known: &KnownRecords, item: &Item<TypeIndex, TypeData>) -
     }
 }
 
-// Whether each id is closed; ids that failed have no entries.
+// Whether each id is closed; also if the ids can't be read.
 fn are_ids_closed(known: &KnownRecords, ids: &Result<IdInformation, StreamError>) -> bool
     ensures { result ≡ all_items (is_id_item_closed known.now) ids.now }
 {
@@ -154,7 +154,7 @@ fn are_id_items_closed(known: &KnownRecords, items: &[Item<IdIndex, IdData>]) ->
     true
 }
 
-// Whether an id is closed; one that can't be read is printed with nothing.
+// Whether an id is closed; also if it can't be read, because then it refers to nothing.
 fn is_id_item_closed(known: &KnownRecords, item: &Item<IdIndex, IdData>) -> bool
     ensures { result ≡ is_id_item_closed known.now item.now }
 {

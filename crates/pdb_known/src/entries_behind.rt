@@ -1,4 +1,4 @@
-//! Whether the types and ids that an entry or a symbol leads to were read.
+//! Checks whether the types and ids to which an entry or a symbol refers were read.
 
 ghost use Rattle.std.specs.Prelude.{◌≡◌};
 ghost use Rattle.pdb_types.specs.Sizes.{underneath};
@@ -11,8 +11,8 @@ use pdb_records::{
     IdData, IdIndex, Symbol, SymbolData, TypeData, TypeIndex, is_code_kind, is_site_kind,
 };
 
-// Whether the types that a type is printed with were read, and the sizes that it is printed with and gets its own
-// from.
+// Whether everything was read that is needed to print a type and to know its size. That is the types in it, and the
+// sizes of its element or of the type underneath.
 pub(crate) fn is_type_closed(known: &KnownRecords, index: TypeIndex, content: &TypeData) -> bool
     ensures { result ≡ is_type_closed known.now index.0 content.now }
 {
@@ -21,14 +21,14 @@ pub(crate) fn is_type_closed(known: &KnownRecords, index: TypeIndex, content: &T
         && (!known.is_sized(index.0) || is_size_underneath_known(known, content))
 }
 
-// Whether the types and ids that an id is printed with were read.
+// Whether the types and ids that are printed as parts of an id were read.
 pub(crate) fn is_id_closed(known: &KnownRecords, content: &IdData) -> bool
     ensures { result ≡ is_id_closed known.now content.now }
 {
     are_types_behind_id_read(&known.types, content) && is_scope_read(&known.ids, content)
 }
 
-// Whether the type that a symbol gives to a procedure was read. Code apart from its body gives none.
+// Whether the type of a symbol's procedure was read. Separated code has no type of its own.
 pub(crate) fn is_procedure_type_read(known: &KnownRecords, symbol: &Symbol) -> bool
     ensures { result ≡ is_procedure_type_read known.now symbol.now }
 {
@@ -57,7 +57,7 @@ pub(crate) fn is_inlinee_read(known: &KnownRecords, symbol: &Symbol) -> bool
     }
 }
 
-// Whether the types that a type is printed with were read.
+// Whether the types that are printed as parts of a type were read.
 fn are_types_behind_read(types: &EntriesRead, content: &TypeData) -> bool
     ensures { result ≡ all_types (is_covered types.now) (types_behind content.now) }
 {
@@ -80,7 +80,7 @@ fn are_types_behind_read(types: &EntriesRead, content: &TypeData) -> bool
     }
 }
 
-// Whether the size that a type is printed with is known: that of an array's element.
+// Whether the size that is needed to print a type is known. Only an array needs one: the size of its element.
 fn are_sizes_behind_known(known: &KnownRecords, content: &TypeData) -> bool
     ensures { result ≡ all_types (is_sized known.now) (sizes_behind content.now) }
 {
@@ -90,7 +90,7 @@ fn are_sizes_behind_known(known: &KnownRecords, content: &TypeData) -> bool
     }
 }
 
-// Whether the size of the type underneath is known, where a type has its size from one.
+// Whether the size of the type underneath is known, if a type takes over its size.
 fn is_size_underneath_known(known: &KnownRecords, content: &TypeData) -> bool
     ensures { result ≡ all_types (is_sized known.now) (alone (underneath content.now)) }
 {
@@ -101,7 +101,7 @@ fn is_size_underneath_known(known: &KnownRecords, content: &TypeData) -> bool
     }
 }
 
-// Whether the types that an id is printed with were read.
+// Whether the types that are printed as parts of an id were read.
 fn are_types_behind_id_read(types: &EntriesRead, content: &IdData) -> bool
     ensures { result ≡ all_types (is_covered types.now) (types_behind_id content.now) }
 {
@@ -115,7 +115,7 @@ fn are_types_behind_id_read(types: &EntriesRead, content: &IdData) -> bool
     }
 }
 
-// Whether the id that an id is printed with was read: the scope of a function.
+// Whether the id that is printed as a part of an id was read: the scope of a function.
 fn is_scope_read(ids: &EntriesRead, content: &IdData) -> bool
     ensures { result ≡ all_ids (is_covered ids.now) (ids_behind_id content.now) }
 {
@@ -128,7 +128,7 @@ fn is_scope_read(ids: &EntriesRead, content: &IdData) -> bool
     }
 }
 
-// Whether a type was read, where there is one.
+// Whether an optional type was read, if there is one.
 fn is_type_read(types: &EntriesRead, index: Option<TypeIndex>) -> bool
     ensures { result ≡ all_types (is_covered types.now) (alone index) }
 {

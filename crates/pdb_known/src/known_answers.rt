@@ -1,4 +1,4 @@
-//! Answers over what was read of a file.
+//! Laws on answers over the records that were read of a file.
 
 ghost use Rattle.std.specs.Prelude.{◌≡◌, ℕ, true, false, Ok};
 ghost use Rattle.pdb_records.specs.Records.{Records};
@@ -11,9 +11,9 @@ ghost use Rattle.pdb_addr2line.specs.Lookups.{failed_after_frames};
 ghost use Rattle.pdb_addr2line.specs.NamedFunctions.{symbol_name_at};
 ghost use Rattle.pdb_known.specs.Known.{Known, IsPartOf, is_closed, lacks, infos_of, refusal_of, all_read};
 
-/// What was read of a file answers as all of its records do, once a check found it closed, at each address whose module
-/// was read: the function, the name of its symbol, the frames, and the broken part to blame are the same. So are the
-/// parts of the records that failed by then.
+/// If a check found the records that were read closed, they give the same answers as all records of the file, at each
+/// address whose module was read: the same function, name of its symbol, frames, and broken part. The same parts of the
+/// records have failed afterwards, too.
 pub fn what_is_known_answers_as_all()
     ensures functions { (flags : TypeFormatterFlags) (known : Known) (whole : Records)
         (part inputs : ContextInputs Records) (address : ℕ) → IsPartOf known whole → is_closed known ≡ true
@@ -47,13 +47,15 @@ pub fn what_is_known_answers_as_all()
         → failed_after_frames infos_of part address failed ≡ failed_after_frames infos_of inputs address failed }
 {}
 
-/// A context over what was read of a file is refused just where a context over all records is, and for the same reason.
+/// A context over the records that were read is refused exactly if a context over all records is, and for the same
+/// reason.
 pub fn what_is_known_is_refused_as_all()
     ensures refusals { (flags : TypeFormatterFlags) (known : Known) (whole : Records) → IsPartOf known whole
         → refusal_of (context_of flags known.records) ≡ refusal_of (context_of flags whole) }
 {}
 
-/// Once all records of a file were read, what is known is a part of them, it is closed, and it lacks no module.
+/// After all records of a file were read, the known records are a part of them, they are closed, and no module is
+/// missing.
 pub fn all_records_are_known()
     ensures part { (records : Records) → IsPartOf (all_read records) records }
     ensures closed { (records : Records) → is_closed (all_read records) ≡ true }

@@ -1,4 +1,4 @@
-//! What was read of a file so far.
+//! `KnownRecords`: the records that were read of a file so far, and which ones these are.
 
 ghost use Rattle.std.specs.Prelude.{◌≡◌};
 ghost use Rattle.pdb_known.specs.Known.{is_covered, is_read, is_sized};
@@ -6,10 +6,10 @@ ghost use Rattle.pdb_known.specs.Known.{is_covered, is_read, is_sized};
 use pdb_records::PDB;
 use std::marker::Model;
 
-// The indices from here on name imports of a module, whose entries another module has.
+// The first cross-module index. The entries of such indices are in other modules.
 const FIRST_IMPORT: u32 = 1 << 31;
 
-/// Which entries of a stream of types or ids were read.
+/// Which entries of a list of types or ids were read.
 #[derive(Drop)]
 pub struct EntriesRead {
     /// The index of the stream's first entry.
@@ -27,8 +27,8 @@ impl Model for EntriesRead {
 }
 
 impl EntriesRead {
-    /// Whether nothing is left to be read for an index: its entry was read, or the stream has none. That of an import
-    /// is never read.
+    /// Whether nothing remains to be read for an index: its entry was read, or the list has none. `false` for a
+    /// cross-module index.
     pub fn is_covered(&self, index: u32) -> bool
         ensures { result ≡ is_covered self.now index }
     {
@@ -45,20 +45,20 @@ impl EntriesRead {
     }
 }
 
-/// What was read of a file.
+/// The records that were read of a file.
 #[derive(Drop)]
 pub struct KnownRecords {
     /// The records so far.
     pub records: PDB,
-    /// Whether they are all.
+    /// Whether all records were read.
     pub all: bool,
     /// Whether each module was read, by its module index.
     pub modules: Vec<bool>,
-    /// The types.
+    /// Which types were read.
     pub types: EntriesRead,
-    /// The types whose size is the same as over all records.
+    /// Which types have the same size as over all records.
     pub sizes: EntriesRead,
-    /// The ids.
+    /// Which ids were read.
     pub ids: EntriesRead,
 }
 
@@ -78,7 +78,7 @@ impl Model for KnownRecords {
 }
 
 impl KnownRecords {
-    /// Whether nothing is left to be read of a module: it was read, or there is none at this module index.
+    /// Whether nothing remains to be read of a module: it was read, or there is none at this module index.
     pub fn is_read(&self, module_index: usize) -> bool
         ensures { result ≡ is_read self.now module_index }
     {
@@ -88,7 +88,7 @@ impl KnownRecords {
         }
     }
 
-    /// Whether a type was read, and its size is the same as over all records.
+    /// Whether a type was read, and has the same size as over all records.
     pub fn is_sized(&self, index: u32) -> bool
         ensures { result ≡ is_sized self.now index }
     {

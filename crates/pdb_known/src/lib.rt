@@ -1,8 +1,8 @@
-//! What was read of a file so far, and when that is enough: where it is closed, it answers as all records do.
+//! Records that were read of a file so far, and a check whether they give the same answers as all records.
 //!
-//! [`KnownRecords`] holds what was read, and [`is_closed`] tells whether an index leads out of it. Each function of
-//! [`known_answers`], [`part_answers`] and [`part_names`] does nothing: its contract is a law, for all records, and the
-//! check proves it.
+//! [`KnownRecords`] has the records that were read, and [`is_closed`] says whether an index leads to a record that
+//! wasn't. Each function of [`known_answers`], [`part_answers`] and [`part_names`] does nothing: its contract states a
+//! law, which the checker proves for all records.
 #![tactic(auto)]
 
 mod closedness;

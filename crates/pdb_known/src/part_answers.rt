@@ -1,4 +1,4 @@
-//! Answers about an address over a part of the records.
+//! A law on answers over a part of the records.
 
 ghost use Rattle.std.specs.Prelude.{◌≡◌, ℕ};
 ghost use Rattle.pdb_records.specs.Records.{Records};
@@ -8,9 +8,9 @@ ghost use Rattle.pdb_addr2line.specs.Lookups.{function_at, frames_at, blamed_at}
 ghost use Rattle.pdb_addr2line.specs.NamedFunctions.{symbol_name_at};
 ghost use Rattle.pdb_known.specs.SameModules.{KnowsAddress};
 
-/// A context over a part of the records gives the answers of the context over the whole: the same function, the same
-/// name of its symbol and the same frames at each address whose module the part knows, and the same broken part to blame
-/// where frames are refused.
+/// A context over a part of the records gives the same answers as the context over the whole, at each address whose
+/// module the part has: the same function, name of its symbol and frames, and the same broken part if frames are
+/// refused.
 pub fn a_part_answers_as_the_whole()
     ensures functions { (info : Records → ProviderInfos) (part whole : ContextInputs Records) (address : ℕ)
         → KnowsAddress info part whole address → function_at info part address ≡ function_at info whole address }

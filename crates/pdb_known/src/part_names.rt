@@ -1,4 +1,4 @@
-//! Names of functions over a part of the types and ids.
+//! Laws on names of functions over a part of the types and ids.
 
 ghost use Rattle.std.specs.Prelude.{◌≡◌, ℕ, true, List};
 ghost use Rattle.pdb_records.specs.Records.{Records};
@@ -12,8 +12,9 @@ ghost use Rattle.pdb_function_info.specs.NameTexts.{procedure_name, id_name};
 ghost use Rattle.pdb_part_laws.specs.Asked.{Indices, AgreeAt, IsClosedAt};
 ghost use Rattle.pdb_known.specs.SameEntries.{HasSameEntries, IsClosedFor};
 
-/// Take sets of indices whose entries a part of the records has like the whole, and which these entries never leave.
-/// Then printing finds the same types, sizes and ids at these indices, over the part and over the whole.
+/// Take sets of indices such that a part of the records has the same entries for them as the whole, and these entries
+/// refer only to indices in the sets. Then printing finds the same types, sizes and ids at these indices, over the part
+/// and over the whole.
 pub fn a_part_prints_as_the_whole()
     ensures inputs { (at : Indices) (info : Records → ProviderInfos) (part whole : TypeInputs Records)
         (module_index : ℕ) → HasSameEntries at info part whole module_index → IsClosedFor at info part module_index
@@ -23,7 +24,7 @@ pub fn a_part_prints_as_the_whole()
         → IsClosedAt at (formatter_inputs info part module_index) }
 {}
 
-/// Names depend on the entries at such indices alone: a procedure whose type is among them, and an inlined function
+/// Names depend only on the entries at such indices: a procedure whose type is among them, and an inlined function
 /// whose id is among them, have the same name over the part and over the whole.
 pub fn a_part_names_as_the_whole()
     ensures procedures { (at : Indices) (info : Records → ProviderInfos) (part whole : TypeInputs Records)

@@ -1,4 +1,4 @@
--- The error that a part of the records of a function's code has by itself.
+-- The error of a single part of the records of a function's code.
 use Rattle.std.specs.Prelude.{Option, Some, None, Result, Ok, Err}
 use Rattle.pdb_records.specs.declared.modules.ModuleInfo.{ModuleInfo}
 use Rattle.pdb_errors.specs.declared.error.Error.{Error}
@@ -10,13 +10,13 @@ use Rattle.pdb_frames.specs.ExtendedInfo.{extended_info}
 use Rattle.pdb_frames.specs.Lines.{function_rows}
 use Rattle.pdb_frames.specs.CodeLocations.{function_ranges}
 
--- the error in place of an answer
+-- the error of a result
 abbrev pub error_of : {A : Type 0} → Result A Error → Option Error
 error_of (Ok answer) = None
 error_of (Err e) = Some e
 
--- the error of a part by itself: of what is known of the module's code; and after that, of the function's line rows
--- and of its inline ranges
+-- the error of a single part: of the records of the module's code; and if these are readable, of the function's line
+-- rows and of its inline ranges
 abbrev pub own_error : ModuleInfo → FunctionMatch → CodePart → Option Error
 own_error info found (part.ExtendedInfo m) = error_of (extended_info info)
 own_error info found (part.Lines m start) =

@@ -1,4 +1,4 @@
--- Where printing meets a circle: an index that opens inside itself, or that repeats in a chain.
+-- Circles in printing: an index that opens inside itself, or that repeats in a chain.
 use Rattle.std.specs.Prelude.{◌≡◌, ℕ, true, false, List, Some, None, Ok}
 use Rattle.pdb_records.specs.declared.types.TypeData.{TypeData}
 use Rattle.pdb_errors.specs.declared.error.Error.TheVariants.{CircularTypeDefinition}
@@ -28,27 +28,27 @@ Repeats w inside (Modified constant target) circle = (target ≡ circle) × (is_
 Repeats w inside (Elements elements levels next) circle = (next ≡ circle) × (is_among next elements ≡ true)
 Repeats w inside (Id met index) circle = (index ≡ circle) × (is_among index met ≡ true)
 
--- nothing of a document fails
+-- no part of a document fails
 abbrev pub Succeeds : Document → Type 0
 Succeeds d = (failed : Parts) → (run d failed).fault ≡ None
 
--- printing a plan meets a circle at this index before anything else fails
+-- printing a plan reaches a circle at this index before anything else fails
 pub data MeetsCircle (w : PrintInputs) : Plan → ℕ → Type 0 where
   -- a task of the plan repeats the index
   at_task : {inside : List ℕ} {task : Task} {circle : ℕ} → Repeats w inside task circle
       → MeetsCircle w (Later inside task) circle
-  -- what the rule of a task gives meets it
+  -- the plan of a task's rule reaches it
   in_rule : {inside : List ℕ} {task : Task} {circle : ℕ} → MeetsCircle w (rule w inside task) circle
       → MeetsCircle w (Later inside task) circle
-  -- the first of two meets it
+  -- the first of two plans reaches it
   in_first : {p q : Plan} {circle : ℕ} → MeetsCircle w p circle → MeetsCircle w (Seq p q) circle
-  -- the first succeeds, and the second meets it
+  -- the first plan succeeds, and the second reaches it
   in_second : {p q : Plan} {d : Document} {circle : ℕ} → Unfolds w p d → Succeeds d → MeetsCircle w q circle
       → MeetsCircle w (Seq p q) circle
-  -- what is held back meets it
+  -- a buffered plan reaches it
   in_buffer : {p : Plan} {after_sigil after_other : List ℕ} {circle : ℕ} → MeetsCircle w p circle
       → MeetsCircle w (Buffered p after_sigil after_other) circle
-  -- what a note may follow meets it: no note stands for a circle
+  -- a plan that a note may follow reaches it; a circle gets no note
   in_caught : {p : Plan} {circle : ℕ} → MeetsCircle w p circle → MeetsCircle w (Catch p) circle
 
 -- printing a plan is refused as circular, with this index

@@ -1,4 +1,4 @@
--- What printing a type, a signature or an id can be refused for.
+-- The errors of printing a type, a signature or an id.
 use Rattle.std.specs.Prelude.{⊤}
 use Rattle.pdb_errors.specs.declared.error.Error.TheVariants.{PdbError, ArgumentTypeNotArgumentList}
 use Rattle.pdb_errors.specs.declared.error.Error.TheVariants.{FunctionIdIsNotProcedureType}
@@ -9,8 +9,8 @@ use Rattle.pdb_errors.specs.declared.error.Error.TheVariants.{LocalIndexNotInExp
 use Rattle.pdb_errors.specs.declared.error.Error.TheVariants.{ModuleInfoNotFound, CircularTypeDefinition}
 use Rattle.pdb_errors.specs.Errors.{ErrorView, Plain, NoModuleNamed}
 
--- an error of the records, of an index that leads to another module, of the type of a function or of its list of
--- arguments, or of an index that repeats
+-- an error of the records, of an index that refers to another module, of the type of a function or of its argument
+-- list, or of an index that repeats
 abbrev pub IsPrintError : ErrorView → Type 0
 IsPrintError (Plain (PdbError e)) = ⊤
 IsPrintError (Plain CantResolveCrossModuleRefWithoutStringTable) = ⊤

@@ -1,7 +1,7 @@
-//! A signature or an id is refused as circular exactly where an index repeats.
+//! Laws: a signature or an id is refused as circular exactly if an index repeats.
 //!
-//! An index repeats where it opens inside itself, where an element of an array is among those before it, and where a
-//! scope is among those that it is in, unless another error stands earlier.
+//! An index repeats if it occurs inside itself, if an element of an array is among those before it, or if a scope is
+//! among those that contain it; unless another error comes first.
 
 ghost use Rattle.std.specs.Prelude.{◌≡◌, ℕ, List, Some};
 ghost use Rattle.pdb_records.specs.Readings.{Read};
@@ -18,8 +18,8 @@ ghost use Rattle.pdb_type_texts.specs.Ids.{id_of_index};
 ghost use Rattle.pdb_type_texts.specs.Signatures.{signature, type_of_index};
 ghost use Rattle.pdb_laws.specs.Circles.{MeetsCircle, IsRefusedAsCircular};
 
-/// Printing the type of an index, while others are open, is refused as circular exactly where it meets a
-/// circle before anything else fails, and it shows the index of that circle.
+/// Printing the type of an index, while others are open, is refused as circular exactly if it reaches a circle before
+/// any other failure. The error has the index of that circle.
 pub fn types_are_circular_exactly_where_an_index_repeats()
     ensures refused { (link_inputs : LinkInputs) (types : Read (Item TypeIndex TypeData))
         (ids : Read (Item IdIndex IdData))
@@ -35,8 +35,8 @@ pub fn types_are_circular_exactly_where_an_index_repeats()
         → MeetsCircle w (type_of_index inside index) circle }
 {}
 
-/// The signature of a function is refused as circular exactly where printing it meets a circle before
-/// anything else fails, and it shows the index of that circle.
+/// The signature of a function is refused as circular exactly if printing it reaches a circle before any other failure.
+/// The error has the index of that circle.
 pub fn signatures_are_circular_exactly_where_an_index_repeats()
     ensures refused { (link_inputs : LinkInputs) (types : Read (Item TypeIndex TypeData))
         (ids : Read (Item IdIndex IdData))
@@ -52,8 +52,8 @@ pub fn signatures_are_circular_exactly_where_an_index_repeats()
         → MeetsCircle w (signature w name index) circle }
 {}
 
-/// An id is refused as circular exactly where printing it meets a circle before anything else fails, and it
-/// shows the index of that circle.
+/// An id is refused as circular exactly if printing it reaches a circle before any other failure. The error has the
+/// index of that circle.
 pub fn ids_are_circular_exactly_where_an_index_repeats()
     ensures refused { (link_inputs : LinkInputs) (types : Read (Item TypeIndex TypeData))
         (ids : Read (Item IdIndex IdData))

@@ -1,7 +1,7 @@
-//! Laws that follow from the definitions of the crates below, where no code needs them.
+//! Laws that follow from the definitions of the crates below, and that no code needs.
 //!
-//! Each function here does nothing. Its contract is a law, for all records, and the check proves it. Laws
-//! that stand beside the code that they are about are in the modules `laws` of the crates below.
+//! Each function here does nothing. Its contract states a law, which the checker proves for all records. Laws that are
+//! next to the code to which they apply are in the modules `laws` of the crates below.
 #![tactic(auto)]
 
 pub mod blame;

@@ -1,6 +1,6 @@
-//! What printing a signature or an id can be refused for, and nothing else.
+//! Laws: the errors for which printing a signature or an id can be refused.
 //!
-//! Out of memory and a writer's refusal are never among it.
+//! Out of memory and a writer's refusal aren't among them.
 
 ghost use Rattle.std.specs.Prelude.{◌≡◌, ℕ, List, Some};
 ghost use Rattle.pdb_records.specs.Readings.{Read};
@@ -19,8 +19,8 @@ ghost use Rattle.pdb_type_texts.specs.Signatures.{signature};
 ghost use Rattle.pdb_type_texts.specs.PrintInputs.{print_inputs_of};
 ghost use Rattle.pdb_laws.specs.PrintErrors.{IsPrintError};
 
-/// The signature of a function is refused for an error of the records, of an index that leads to another
-/// module, of the type of a function or of its list of arguments, or of an index that repeats.
+/// The signature of a function is refused only for an error of the records, of a cross-module index, of the type of a
+/// function or of its argument list, or for an index that repeats.
 pub fn signatures_are_refused_for()
     ensures { (link_inputs : LinkInputs) (types : Read (Item TypeIndex TypeData)) (ids : Read (Item IdIndex IdData))
         (pointer : ℕ) (flags : TypeFormatterFlags) (module_index : ℕ) (name : List ℕ) (index : ℕ)
@@ -30,7 +30,7 @@ pub fn signatures_are_refused_for()
         → IsPrintError (failure_error failure) }
 {}
 
-/// An id is refused for the same errors.
+/// An id is refused only for the same errors.
 pub fn ids_are_refused_for()
     ensures { (link_inputs : LinkInputs) (types : Read (Item TypeIndex TypeData)) (ids : Read (Item IdIndex IdData))
         (pointer : ℕ) (flags : TypeFormatterFlags) (module_index : ℕ) (index : ℕ)

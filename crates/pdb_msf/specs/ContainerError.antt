@@ -1,4 +1,4 @@
--- What a file is that is no PDB file of version 7.00.
+-- Which kind of file a file is that isn't a PDB file of version 7.00.
 use Rattle.std.specs.Prelude.{ℕ, nat_eq, Bool, List, codes, if◌then◌else◌}
 use Rattle.std.specs.List.{starts_with}
 use Rattle.pdb_msf.specs.declared.container_error.ContainerError.{ContainerError}
@@ -8,7 +8,8 @@ use Rattle.pdb_msf.specs.declared.container_error.ContainerError.TheVariants as 
 abbrev pub begins : List ℕ → List ℕ → Bool
 begins file bytes = starts_with nat_eq file bytes
 
--- what a file is by its first bytes: a program, a portable PDB, a compressed file, a PDB file of version 2.00, or none
+-- the fault that names the kind of a file by its first bytes: a program, a portable PDB, a compressed file, a PDB file
+-- of version 2.00, or none of these
 unfoldable pub other_fault : List ℕ → ContainerError
 other_fault bytes =
     if begins bytes (codes "MZ") then file.Program else

@@ -10,16 +10,16 @@ use Rattle.pdb_msf.specs.Faults.{◌>>=◌}
 use Rattle.pdb_msf.specs.NumberLists.{number, listed}
 use Rattle.pdb_msf.specs.Streams.{stream_inside}
 
--- the size that stands for a stream that isn't there
+-- the size that the directory has for a missing stream
 abbrev pub absent : ℕ
 absent = 4294967295
 
--- how many blocks the directory has: those that hold its bytes
+-- the number of blocks that hold the directory
 abbrev pub directory_blocks : Superblock → ℕ
 directory_blocks front = div_ceil front.directory_size front.block_size
 
--- the numbers of the blocks of the block map: they stand in the superblock from 52 on, most often one, and as many as
--- the map takes
+-- the numbers of the blocks of the block map: as many as the map takes, most often one. They start at offset 52 of the
+-- superblock
 abbrev pub map_blocks : Superblock → List ℕ → Result (List ℕ) StreamError
 map_blocks front file = listed (div_ceil (4 * directory_blocks front) front.block_size) (drop 52 file)
 
@@ -30,30 +30,30 @@ block_map front file = do
   bytes ← stream_inside front.block_size file (4 * directory_blocks front) blocks
   listed (directory_blocks front) bytes
 
--- the bytes of the directory, which is no longer than the file: those of the blocks that the block map lists
+-- the bytes of the directory, in the blocks that the block map lists. A directory longer than the file is cut
 unfoldable pub directory : Superblock → List ℕ → Result (List ℕ) StreamError
 directory front file =
     if nat_lt (length file) front.directory_size then Err CUT else (do
       blocks ← block_map front file
       stream_inside front.block_size file front.directory_size blocks)
 
--- the sizes of the streams: the directory begins with how many streams there are, and these follow
+-- the sizes of the streams: the directory begins with the number of streams, and their sizes follow
 unfoldable pub sizes_in : List ℕ → Result (List ℕ) StreamError
 sizes_in bytes = if nat_lt (length bytes) 4 then Err CUT else listed (number bytes) (drop 4 bytes)
 
--- how many bytes a stream of this size has: one that isn't there has none
+-- the number of bytes in a stream of this size; a missing stream has none
 abbrev pub bytes_in : ℕ → ℕ
 bytes_in size = if size == absent then 0 else size
 
--- how many bytes all streams have together
+-- the number of bytes in all streams together
 abbrev pub total_size : List ℕ → ℕ
 total_size sizes = sum_by bytes_in sizes
 
--- how many blocks hold the bytes of a stream of this size
+-- the number of blocks that hold a stream of this size
 abbrev pub block_count : ℕ → ℕ → ℕ
 block_count block_size size = div_ceil (bytes_in size) block_size
 
--- where the directory has each stream: the numbers of its blocks follow those of the stream before it
+-- where the directory has the block numbers of each stream: after those of the stream before it
 abbrev pub extents : ℕ → ℕ → List ℕ → List StreamExtent
 extents block_size place [] = []
 extents block_size place (size ∷ sizes) =

@@ -1,4 +1,4 @@
--- Values and faults by definition, and what a call answers of them.
+-- Values and faults of definitions, and how the result of a call relates to them.
 use Rattle.std.specs.Prelude.{◌≡◌, ◌≢◌, ◌==◌, ℕ, List, codes, Result, Ok, Err, if◌then◌else◌}
 use Rattle.pdb_records.specs.declared.error.StreamError.{StreamError}
 use Rattle.pdb_msf.specs.declared.faults.Fault.{Fault}
@@ -9,47 +9,47 @@ use Rattle.pdb_msf.specs.declared.container_error.ContainerError.{ContainerError
 use Rattle.pdb_msf.specs.declared.container_error.ContainerError.TheVariants as file
 
 infixl 10 ◌>>=◌
--- the second meaning over the value of the first, or the first one's fault
+-- passes the value of the first result to the second definition; a fault of the first is the result
 abbrev pub ◌>>=◌ : {A B E : Type 0} → Result A E → (A → Result B E) → Result B E
 (Ok value) >>= next = next value
 (Err fault) >>= next = Err fault
 
--- a fault in the directory cuts the file short
+-- a fault in the directory counts as a file that is cut short
 abbrev pub cut_short : {A : Type 0} → Result A StreamError → Result A ContainerError
 cut_short (Ok value) = Ok value
 cut_short (Err error) = Err file.CutShort
 
--- what is broken in the directory cuts the file short; out of memory stays out of memory
+-- the file's error for a fault in the directory: the file is cut short, or memory ran out
 abbrev pub fault_of : Fault → ContainerError
 fault_of (Broken e) = file.CutShort
 fault_of OutOfMemory = file.OutOfMemory
 
--- a fault is turned into the file's
+-- the given error is the file's error for this fault
 abbrev pub GivesFault : Fault → ContainerError → Type 0
 GivesFault fault given = given ≡ fault_of fault
 
--- a fault that a call answers is the defined one, unless there was no memory
+-- a call that fails has the defined fault, except after an allocation failure
 abbrev pub Fails : {Y : Type 0} → Fault → Result Y StreamError → Type 0
 Fails (Broken error) defined = defined ≡ Err error
 Fails OutOfMemory defined = Unit {0}
 
--- a call answers what is defined, seen as it is there: the value, or the fault, unless there was no memory
+-- a call's result is the defined one: the value as `seen` shows it, or the fault, except after an allocation failure
 abbrev pub Gives : {X Y : Type 0} → (X → Y) → Result X Fault → Result Y StreamError → Type 0
 Gives seen (Ok answer) defined = defined ≡ Ok (seen answer)
 Gives seen (Err fault) defined = Fails fault defined
 
--- a part as it is read by itself: its value, or why it alone is broken; out of memory stays out of memory
+-- the result of reading one part: its value, or why only this part is broken. An allocation failure stays one
 abbrev pub part_of : {T : Type 0} → Result T Fault → Result (Result T StreamError) Fault
 part_of (Ok part) = Ok (Ok part)
 part_of (Err (Broken error)) = Ok (Err error)
 part_of (Err OutOfMemory) = Err OutOfMemory
 
--- opening answers what is defined, seen as it is there: the value, or the file's fault, unless there was no memory
+-- opening has the defined result: the value as `seen` shows it, or the file's fault, except after an allocation failure
 abbrev pub Opens : {X Y : Type 0} → (X → Y) → Result X ContainerError → Result Y ContainerError → Type 0
 Opens seen (Ok answer) defined = defined ≡ Ok (seen answer)
 Opens seen (Err fault) defined = fault ≢ file.OutOfMemory → defined ≡ Err fault
 
--- what a fault says in words
+-- the text of a fault
 abbrev pub fault_text : StreamError → List ℕ
 fault_text error =
     if error.0 == CUT.0 then codes "the bytes end before what is said to stand there" else

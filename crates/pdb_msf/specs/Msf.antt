@@ -13,20 +13,20 @@ use Rattle.pdb_msf.specs.NumberLists.{listed}
 use Rattle.pdb_msf.specs.Streams.{stream_inside}
 use Rattle.pdb_msf.specs.Superblock.{superblock}
 
--- a file as a container: its bytes, the size of its blocks, the bytes of its directory, and the sizes of its streams
+-- a file as a container: its bytes, its block size, the bytes of its directory, and the sizes of its streams
 pub record Msf : Type 0 where
   pub file : List ℕ
   pub block_size : ℕ
   pub directory : List ℕ
   pub sizes : List ℕ
 
--- the container of these bytes, with blocks of this size, a directory and the sizes of streams
+-- the container of these bytes, with this block size, directory and stream sizes
 abbrev pub over : List ℕ → ℕ → List ℕ → List ℕ → Msf
 over file block_size directory sizes =
     record { file = file; block_size = block_size; directory = directory; sizes = sizes }
 
--- a file is a container if it has a superblock, a directory and the sizes of streams that are no longer than the file
--- together; else it has the first fault of these
+-- a file is a container if it has a superblock, a directory and the sizes of streams, and the streams together aren't
+-- longer than the file; otherwise the first fault of these
 unfoldable pub container : List ℕ → Result Msf ContainerError
 container file = do
   front ← superblock file
@@ -35,7 +35,7 @@ container file = do
   if nat_lt (length file) (total_size sizes) then Err fault.StreamsTooLong else
       Ok (record { file = file; block_size = front.block_size; directory = bytes; sizes = sizes })
 
--- the size that the directory has for a stream, where that one is there
+-- the size of a stream by its entry in the directory; an error if there is no entry or the stream is missing
 abbrev pub present : Option ℕ → Result ℕ StreamError
 present None = Err NO_STREAM
 present (Some size) = if size == absent then Err NO_STREAM else Ok size
@@ -44,17 +44,17 @@ present (Some size) = if size == absent then Err NO_STREAM else Ok size
 unfoldable pub size_of : Msf → ℕ → Result ℕ StreamError
 size_of msf number = present (slice_get msf.sizes number)
 
--- where the numbers of a stream's blocks stand in the directory: behind the number of streams, all sizes, and the
--- numbers of the blocks of all streams before it
+-- where the directory has the block numbers of a stream: after the number of streams, all sizes, and the block numbers
+-- of all streams before it
 unfoldable pub numbers_place : Msf → ℕ → ℕ
 numbers_place msf number =
     4 + 4 * length msf.sizes + 4 * sum_by (block_count msf.block_size) (take number msf.sizes)
 
--- the numbers of the blocks of a stream of this number and this size
+-- the block numbers of a stream, by its number and its size
 abbrev pub stream_blocks : Msf → ℕ → ℕ → Result (List ℕ) StreamError
 stream_blocks msf number size = listed (div_ceil size msf.block_size) (drop (numbers_place msf number) msf.directory)
 
--- the bytes of the stream of this number: those of its blocks, one after the other, up to its size
+-- the bytes of the stream with this number: its blocks in order, up to its size
 unfoldable pub stream_of : Msf → ℕ → Result (List ℕ) StreamError
 stream_of msf number = do
   size ← size_of msf number

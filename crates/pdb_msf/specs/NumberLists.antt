@@ -5,19 +5,19 @@ use Rattle.byteorder.specs.Endian.{little_number}
 use Rattle.pdb_records.specs.declared.error.StreamError.{StreamError}
 use Rattle.pdb_msf.specs.declared.faults.TheConstants.{CUT}
 
--- the number that the first four bytes are, the lowest byte first
+-- the first four bytes as a number, lowest byte first
 abbrev pub number : List ℕ → ℕ
 number bytes = little_number 4 (take 4 bytes)
 
--- the number that the first two bytes are, the lowest byte first
+-- the first two bytes as a number, lowest byte first
 abbrev pub two_byte_number : List ℕ → ℕ
 two_byte_number bytes = little_number 2 (take 2 bytes)
 
--- so many numbers, one after the other
+-- `count` four-byte numbers in a row
 abbrev pub numbers : ℕ → List ℕ → List ℕ
 numbers zero bytes = []
 numbers (suc count) bytes = number bytes ∷ numbers count (drop 4 bytes)
 
--- so many numbers, where there are bytes for all of them
+-- `count` four-byte numbers in a row; `CUT` if there are too few bytes
 unfoldable pub listed : ℕ → List ℕ → Result (List ℕ) StreamError
 listed count bytes = if nat_lt (length bytes) (4 * count) then Err CUT else Ok (numbers count bytes)

@@ -1,4 +1,4 @@
--- The superblock, which a file of the format begins with.
+-- The superblock, with which a file of the format begins.
 use Rattle.std.specs.Prelude.{ℕ, ◌==◌, nat_lt, Bool, not, List, [], ◌∷◌, ◌++◌, drop, length, codes}
 use Rattle.std.specs.Prelude.{Result, Ok, Err, if◌then◌else◌}
 use Rattle.std.specs.List.{list_any}
@@ -8,7 +8,7 @@ use Rattle.pdb_msf.specs.declared.superblock.Superblock.{Superblock}
 use Rattle.pdb_msf.specs.ContainerError.{begins, other_fault}
 use Rattle.pdb_msf.specs.NumberLists.{number}
 
--- the magic of the format: its name, the ends of a line and of a text, the letters DS, and zeros up to 32 bytes
+-- the magic of the format: its name, carriage return, line feed, 0x1a, the letters DS, and zeros up to 32 bytes
 abbrev pub magic : List ℕ
 magic = codes "Microsoft C/C++ MSF 7.00" ++ 13 ∷ 10 ∷ 26 ∷ 68 ∷ 83 ∷ 0 ∷ 0 ∷ 0 ∷ []
 
@@ -21,11 +21,11 @@ unfoldable pub is_block_size : ℕ → Bool
 is_block_size size =
     list_any (λ lawful. size == lawful) (512 ∷ 1024 ∷ 2048 ∷ 4096 ∷ 8192 ∷ 16384 ∷ 32768 ∷ [])
 
--- the fields that are read: behind the magic stands the size of a block, and at 44 the number of the directory's bytes
+-- the fields that are read: the block size at 32, after the magic, and the size of the directory at 44
 abbrev pub fields : List ℕ → Superblock
 fields bytes = record { block_size = number (drop 32 bytes); directory_size = number (drop 44 bytes) }
 
--- the superblock of a file: the magic, all of its 56 bytes, and a size that blocks may have
+-- the superblock of a file; it needs the magic, all 56 bytes, and a valid block size
 unfoldable pub superblock : List ℕ → Result Superblock ContainerError
 superblock bytes =
     if not (is_msf bytes) then Err (other_fault bytes) else

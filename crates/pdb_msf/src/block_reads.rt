@@ -1,4 +1,4 @@
-//! The blocks of a file that is read range by range: neighbours are read together.
+//! Reads blocks of a file from a source. Neighbouring blocks are read together.
 
 ghost use Rattle.std.specs.Prelude.{◌≡◌, ◌≤◌, ◌<◌, ◌+◌, ◌*◌, ◌^◌, ◌++◌, List, ℕ};
 ghost use Rattle.std.specs.Prelude.{length, take, drop, IfErr, IfOk, IfSome, OnOk};
@@ -11,10 +11,10 @@ use crate::source_error::SourceError;
 use pdb_records::StreamError;
 use std::alloc::Global;
 
-/// How many bytes are read at once, at most: so many stay in a processor's cache.
+/// The maximum number of bytes that are read at once. This many fit a processor's cache.
 const LONGEST: usize = 131_072;
 
-/// How long a file is, and each of its blocks.
+/// The length of a file, and the size of its blocks.
 #[derive(Clone, Copy)]
 pub struct BlockGrid {
     pub file_length: usize,
@@ -22,7 +22,7 @@ pub struct BlockGrid {
 }
 
 impl BlockGrid {
-    /// Where a block starts.
+    /// The offset in the file at which a block starts.
     #[tactic(auto, using(crate::proofs::BlockLemmas::start_below))]
     pub(crate) fn start(self, number: u32) -> usize
         requires { self.block_size ≤ 32768 }
@@ -32,7 +32,7 @@ impl BlockGrid {
         number as usize * self.block_size
     }
 
-    /// Whether the file has the whole of each of these blocks.
+    /// Whether each of these blocks is completely inside the file.
     pub fn has_all(self, blocks: &[u32]) -> bool
         requires { self.block_size ≤ 32768 }
         ensures { (file : List ℕ) → length file ≡ self.file_length
@@ -47,16 +47,16 @@ impl BlockGrid {
     }
 }
 
-/// Bytes of a file that follow one another.
+/// A range of the bytes of a file.
 #[derive(Clone, Copy)]
 pub(crate) struct Run {
     pub(crate) start: usize,
     pub(crate) length: usize,
 }
 
-/// The bytes of these blocks, one after the other, up to a length.
+/// Reads these blocks in turn, and returns the first `length` bytes.
 ///
-/// [`BLOCK_OUTSIDE`] where a block doesn't lie in the file as a whole.
+/// The error is [`BLOCK_OUTSIDE`] if a block isn't completely inside the file.
 #[tactic(auto, unfolding(crate::specs::Streams::stream_inside))]
 pub fn read_blocks<S: Source>(
     alloc: Global,
@@ -82,7 +82,7 @@ pub fn read_blocks<S: Source>(
     Ok(Ok(bytes))
 }
 
-/// Appends the bytes of these blocks, one after the other.
+/// Reads these blocks in turn, and appends their bytes.
 pub fn append_blocks<S: Source>(
     source: &mut S,
     grid: BlockGrid,
@@ -116,7 +116,7 @@ pub fn append_blocks<S: Source>(
     append_run(source, run, bytes)
 }
 
-/// Appends the bytes of a run.
+/// Reads a range, and appends its bytes.
 pub(crate) fn append_run<S: Source>(
     source: &mut S,
     run: Run,

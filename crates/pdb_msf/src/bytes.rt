@@ -1,4 +1,4 @@
-//! What is left of bytes that are read from the front: numbers of one to eight bytes, and texts.
+//! `Bytes`: reads numbers of one to four bytes and texts off the front of a byte list.
 
 ghost use Rattle.std.specs.Prelude.{◌≡◌, ◌≤◌, ◌<◌, ◌+◌, ◌==◌, length, take, drop, Some, None, IfSome, IfOk};
 ghost use Rattle.std.specs.Prelude.{◌-◌, ◌^◌, min, slice_get, IfErr, OnOk, OnErr};
@@ -11,8 +11,8 @@ use byteorder::{ByteOrder, LittleEndian};
 use pdb_records::StreamError;
 use std::marker::Model;
 
-/// What is still to be read of a list of bytes. Each call takes what it answers off the front, and
-/// answers [`CUT`] where too little is left.
+/// The rest of a byte list that isn't read yet. Each call removes what it returns from the front, or returns [`CUT`] if
+/// too few bytes are left.
 #[derive(Drop)]
 pub struct Bytes<'a> {
     rest: &'a [u8],
@@ -27,14 +27,14 @@ impl<'a> Model for Bytes<'a> {
 }
 
 impl<'a> Bytes<'a> {
-    /// All of these bytes.
+    /// A reader of all these bytes.
     pub fn new(bytes: &'a [u8]) -> Self
         ensures { result ≡ bytes.now }
     {
         Bytes { rest: bytes }
     }
 
-    /// How many bytes are left.
+    /// The number of bytes that are left.
     pub fn len(&self) -> usize
         ensures { result ≡ length self.now }
     {
@@ -55,7 +55,7 @@ impl<'a> Bytes<'a> {
         self.rest
     }
 
-    /// The next bytes, so many.
+    /// The next `count` bytes.
     pub fn take(&mut self, count: usize) -> Result<&'a [u8], StreamError>
         ensures answer { IfOk result (λ taken. taken.now ≡ take count self.old) }
         ensures count { IfOk result (λ taken. length taken.now ≡ count) }
@@ -81,7 +81,7 @@ impl<'a> Bytes<'a> {
         Ok(taken[0])
     }
 
-    /// The next number of two bytes.
+    /// The next two-byte number.
     pub fn u16(&mut self) -> Result<u16, StreamError>
         ensures answer { IfOk result (λ read. read ≡ two_byte_number self.old) }
         ensures there { OnOk result (2 ≤ length self.old) }
@@ -93,7 +93,7 @@ impl<'a> Bytes<'a> {
         Ok(LittleEndian::read_u16(taken))
     }
 
-    /// The next number of four bytes.
+    /// The next four-byte number.
     pub fn u32(&mut self) -> Result<u32, StreamError>
         ensures answer { IfOk result (λ read. read ≡ number self.old) }
         ensures there { OnOk result (4 ≤ length self.old) }
@@ -105,7 +105,7 @@ impl<'a> Bytes<'a> {
         Ok(LittleEndian::read_u32(taken))
     }
 
-    /// The next text, which ends before a zero byte. The zero is passed over.
+    /// The next text, which ends before a zero byte. The zero byte is skipped.
     pub fn text(&mut self) -> Result<&'a [u8], StreamError>
         ensures answer { IfOk result (λ text. text_in self.old ≡ Some text.now) }
         ensures within { IfOk result (λ text. length text.now < length self.old) }
@@ -119,7 +119,7 @@ impl<'a> Bytes<'a> {
         Ok(text)
     }
 
-    /// The next text, which a byte with its length stands in front of.
+    /// The next text, which follows a byte with its length.
     pub fn counted_text(&mut self) -> Result<&'a [u8], StreamError>
         ensures answer { IfOk result (λ text. counted_text_in self.old ≡ Some text.now) }
         ensures state { IfOk result (λ text. self.new ≡ drop (length text.now + 1) self.old) }
@@ -144,7 +144,7 @@ fn zero_in(bytes: &[u8]) -> Option<usize>
     None
 }
 
-/// The number of two bytes that stands in the front of a record.
+/// The two-byte number at an offset of a record's fixed part.
 pub fn u16_at(front: &[u8], at: usize) -> u16
     requires { at + 2 ≤ length front.now }
     ensures { result ≡ two_byte_number (drop at front.now) }
@@ -152,7 +152,7 @@ pub fn u16_at(front: &[u8], at: usize) -> u16
     LittleEndian::read_u16(&front[at..])
 }
 
-/// The number of four bytes that stands in the front of a record.
+/// The four-byte number at an offset of a record's fixed part.
 pub fn u32_at(front: &[u8], at: usize) -> u32
     requires { at + 4 ≤ length front.now }
     ensures { result ≡ number (drop at front.now) }
@@ -160,7 +160,7 @@ pub fn u32_at(front: &[u8], at: usize) -> u32
     LittleEndian::read_u32(&front[at..])
 }
 
-/// How far a reading has come: the bytes of the whole that are no longer left.
+/// The offset that reading has reached: the length of the whole, less the bytes that are left.
 pub fn offset_of(whole: usize, left: usize) -> u32
     ensures { result ≡ min (whole - left) (2 ^ 32 - 1) }
 {

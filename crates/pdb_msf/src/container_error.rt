@@ -1,4 +1,4 @@
-//! Why a file can't be read at all: no PDB file, a program, a compressed file, an older version, cut short.
+//! `ContainerError`: why a file can't be read at all, such as a program, a compressed file or an older version.
 
 ghost use Rattle.std.specs.Prelude.{◌≡◌};
 ghost use Rattle.pdb_msf.specs.ContainerError.{other_fault};
@@ -9,16 +9,16 @@ use thiserror::Error;
 /// Why a file can't be read at all.
 #[derive(Debug, Clone, Copy, PartialEq, Eq, Error)]
 pub enum ContainerError {
-    /// The file doesn't begin as a PDB file of version 7.00 does, or has blocks of a size that none has.
+    /// The file doesn't begin as a PDB file of version 7.00 does, or has an invalid block size.
     #[error("not a PDB file")]
     NotAPdbFile,
     /// The file is a program or a library.
     #[error("a program (EXE or DLL), not its PDB file")]
     Program,
-    /// The file has the debugging records of a program for .NET.
+    /// The file has the debug records of a .NET program.
     #[error("a .NET portable PDB")]
     PortablePdb,
-    /// The file is compressed, as symbol stores have files.
+    /// The file is compressed, as files in symbol stores may be.
     #[error("a compressed file (CAB, .pd_)")]
     Compressed,
     /// The file is a PDB file of the version before 7.00.
@@ -27,15 +27,15 @@ pub enum ContainerError {
     /// The file ends before its directory of streams does.
     #[error("the file is cut short before the end of its directory")]
     CutShort,
-    /// The streams of the file are longer than the file together.
+    /// All streams together are longer than the file.
     #[error("the streams are longer than the file together")]
     StreamsTooLong,
-    /// There was no memory. The same call may succeed later.
+    /// Memory ran out. The same call may succeed later.
     #[error("out of memory")]
     OutOfMemory,
 }
 
-/// What a file is that is no PDB file of version 7.00, by its first bytes.
+/// The kind of a file that isn't a PDB file of version 7.00, by its first bytes.
 #[tactic(auto, unfolding(crate::specs::ContainerError::other_fault))]
 pub fn other_file(file: &[u8]) -> ContainerError
     ensures { result ≡ other_fault file.now }

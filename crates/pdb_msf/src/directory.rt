@@ -1,4 +1,4 @@
-//! The directory: its bytes, by the block map, the sizes of the streams, and where the numbers of their blocks are.
+//! Reads the directory: its bytes, by the block map; the sizes of the streams; and where their block numbers are.
 
 ghost use Rattle.std.specs.Prelude.{◌≡◌, ◌≤◌, ◌<◌, ◌+◌, ◌*◌, ◌^◌, drop, length, nat_lt, not, IfOk, IfErr};
 ghost use Rattle.std.specs.Int.{div_ceil};
@@ -14,21 +14,21 @@ use crate::streams::{StreamBytes, read_stream};
 use crate::superblock::Superblock;
 use std::alloc::Global;
 
-/// Where the superblock names the blocks of the block map: most often one, and as many as the map takes.
+/// The offset in the file of the block map's block numbers. Most often there is one.
 pub(crate) const BLOCK_MAP: usize = 52;
 
-/// The size that stands for a stream that isn't there.
+/// The size that means that a stream doesn't exist.
 pub const ABSENT: u32 = 0xffff_ffff;
 
-/// Where the directory has a stream.
+/// A stream as the directory lists it.
 #[derive(Clone, Copy)]
 pub struct StreamExtent {
     pub size: u32,
-    /// Where the number of its first block stands.
+    /// The offset in the directory of the number of its first block.
     pub numbers: usize,
 }
 
-/// The directory's bytes.
+/// Reads the directory's bytes.
 #[tactic(auto, unfolding(crate::specs::Directory::directory))]
 pub fn read_directory<'a>(
     alloc: Global,
@@ -46,7 +46,7 @@ pub fn read_directory<'a>(
     read_stream(alloc, file, superblock.block_size, size, &blocks)
 }
 
-// The block map: the numbers of the directory's blocks.
+// Reads the block map: the numbers of the directory's blocks.
 #[tactic(auto, unfolding(crate::specs::Directory::block_map))]
 fn read_block_map(alloc: Global, file: &[u8], superblock: Superblock) -> Result<Vec<u32>, Fault>
     requires { 512 ≤ superblock.block_size }
@@ -61,7 +61,7 @@ fn read_block_map(alloc: Global, file: &[u8], superblock: Superblock) -> Result<
     take_numbers(alloc, &mut Bytes::new(map.as_slice()), count)
 }
 
-/// The numbers of a stream's blocks, as the directory's bytes have them.
+/// Reads the numbers of a stream's blocks from the directory's bytes.
 pub fn block_numbers(
     alloc: Global,
     directory: &[u8],
@@ -81,7 +81,7 @@ pub fn block_numbers(
     )
 }
 
-/// How many blocks hold so many bytes.
+/// The number of blocks that hold `size` bytes.
 pub fn blocks_over(size: u32, block_size: usize) -> usize
     requires { 512 ≤ block_size }
     ensures answer { result ≡ div_ceil size block_size }
@@ -90,7 +90,7 @@ pub fn blocks_over(size: u32, block_size: usize) -> usize
     (size as usize).div_ceil(block_size)
 }
 
-/// The sizes of all streams, by the directory's bytes.
+/// Reads the sizes of all streams from the directory's bytes.
 #[tactic(auto, unfolding(crate::specs::Directory::sizes_in))]
 pub fn read_sizes(alloc: Global, directory: &[u8]) -> Result<Vec<u32>, Fault>
     ensures answer { Gives (λ sizes. sizes.items) result (sizes_in directory.now) }
@@ -101,7 +101,7 @@ pub fn read_sizes(alloc: Global, directory: &[u8]) -> Result<Vec<u32>, Fault>
     take_numbers(alloc, &mut sizes, count as usize)
 }
 
-/// Whether streams of these sizes are together no longer than a file of this length.
+/// Whether streams of these sizes are together at most as long as the file.
 pub fn sizes_fit(sizes: &[u32], file_length: usize) -> bool
     ensures { result ≡ not (nat_lt file_length (total_size sizes.now)) }
 {
@@ -118,7 +118,7 @@ pub fn sizes_fit(sizes: &[u32], file_length: usize) -> bool
     true
 }
 
-/// Where the directory has each stream, by the sizes of all.
+/// Lists each stream, with the offset of its block numbers in the directory.
 pub fn list_extents(
     alloc: Global,
     sizes: &[u32],
@@ -138,7 +138,7 @@ pub fn list_extents(
     Ok(extents)
 }
 
-// How many blocks hold the bytes of a stream of this size.
+// The number of blocks of a stream with this size.
 fn blocks_of_stream(size: u32, block_size: usize) -> usize
     requires { 512 ≤ block_size }
     ensures answer { result ≡ block_count block_size size }

@@ -1,4 +1,4 @@
-//! Why a part of a file could not be read, by number, and the two ways in which reading a part ends early.
+//! Numbers for why a part of a file can't be read, and `Fault`: whether only the part is broken or memory ran out.
 
 ghost use Rattle.std.specs.Prelude.{◌≡◌, IfErr};
 ghost use Rattle.pdb_msf.specs.Faults.{fault_text, part_of};
@@ -6,29 +6,29 @@ ghost use Rattle.pdb_msf.specs.Faults.{fault_text, part_of};
 use pdb_records::StreamError;
 use std::alloc::{AllocError, AllocFailed};
 
-/// The bytes end before what is said to stand there.
+/// The bytes end too early.
 pub const CUT: StreamError = StreamError(1);
 /// The file has no such stream.
 pub const NO_STREAM: StreamError = StreamError(2);
 /// A block of the stream lies outside of the file.
 pub const BLOCK_OUTSIDE: StreamError = StreamError(3);
-/// The streams of the modules are longer than the file together, each as often as a module names it.
+/// The module streams together are longer than the file. A stream counts once for each module that names it.
 pub const TOO_LONG: StreamError = StreamError(4);
-/// A signature or a version is none that is known.
+/// A signature or a version is unknown.
 pub const UNKNOWN_VERSION: StreamError = StreamError(5);
-/// A length is none that can stand there.
+/// A length is invalid.
 pub const BAD_LENGTH: StreamError = StreamError(6);
-/// What is pointed at isn't there.
+/// An offset or an index points outside of the data.
 pub const POINTS_NOWHERE: StreamError = StreamError(7);
-/// Addresses were rearranged after linking, which is not undone.
+/// Addresses were rearranged after linking (OMAP). This isn't supported.
 pub const REARRANGED: StreamError = StreamError(8);
 
-/// A number or a kind is none that can stand there.
+/// A number or a kind is invalid.
 pub const BAD_NUMBER: StreamError = StreamError(9);
-/// Code of an inlined body stands apart from its function's, in a place that isn't shown.
+/// The code of an inlined body is in a separated chunk whose place can't be given.
 pub const APART: StreamError = StreamError(10);
 
-/// What a number says in words.
+/// The message for an error number.
 pub fn fault_text(error: StreamError) -> &'static str
     ensures { result.now ≡ fault_text error }
 {
@@ -50,9 +50,9 @@ pub fn fault_text(error: StreamError) -> &'static str
 /// Why reading a part ended early.
 #[derive(Debug, Clone, Copy)]
 pub enum Fault {
-    /// The part is broken, and what stands beside it is not.
+    /// Only this part is broken. Other parts can still be read.
     Broken(StreamError),
-    /// There was no memory.
+    /// Memory ran out.
     OutOfMemory,
 }
 
@@ -89,7 +89,7 @@ impl<T: Drop> From<AllocFailed<T>> for Fault {
     }
 }
 
-/// The part, or why it alone is broken.
+/// Separates the two faults: a broken part becomes the inner error, and only out of memory stays the outer one.
 pub fn part_or_fault<T>(outcome: Result<T, Fault>) -> Result<Result<T, StreamError>, Fault>
     ensures answer { result ≡ part_of outcome }
     ensures memory { IfErr result (λ fault. fault ≡ Fault.OutOfMemory) }

@@ -1,4 +1,4 @@
-//! Lists of items, one after the other until the bytes end: the loop over them, whatever reads an item.
+//! Reads lists of consecutive items up to the end of the bytes, with any reader for one item.
 
 ghost use Rattle.std.specs.Prelude.{◌≡◌, ◌++◌, ℕ, List, Result, IfOk, OnOk};
 ghost use Rattle.pdb_records.specs.declared.error.StreamError.{StreamError};
@@ -12,19 +12,19 @@ use crate::number_lists::bytes_from;
 use pdb_records::{Reading, StreamError};
 use std::alloc::{AllocError, Global};
 
-/// What reads the items of a list, one after the other.
+/// A reader for the items of a list.
 pub trait ItemReader<'a> {
     type Item: Drop;
 
-    /// The item that stands first, and what stands behind it.
+    /// The first item, and the bytes after it.
     ghost first: { Self → List ℕ → Result (Self.Item × List ℕ) StreamError };
 
-    /// Takes the next item.
+    /// Reads the next item off the front.
     fn take(&self, rest: &mut Bytes<'a>) -> Result<Self::Item, Fault>
         ensures { Gives (λ item. (item, rest.new)) result (first self.now rest.old) };
 }
 
-/// Items that are each filled up to a multiple of four bytes, counted from where the item starts.
+/// Reads items that are each padded to a multiple of four bytes, counted from the item's start.
 #[derive(Drop)]
 pub struct PaddedItems<R>(pub R);
 
@@ -44,7 +44,7 @@ impl<'a, R: ItemReader<'a> + Drop> ItemReader<'a> for PaddedItems<R> {
     }
 }
 
-/// Appends the items of these bytes, up to the first fault.
+/// Appends the items of these bytes, up to the first fault, which is returned.
 pub fn push_items<'a, R: ItemReader<'a>>(
     reader: &R,
     bytes: &'a [u8],
@@ -68,7 +68,7 @@ pub fn push_items<'a, R: ItemReader<'a>>(
     Ok(None)
 }
 
-/// The items of these bytes, up to the first fault.
+/// Reads the items of these bytes, up to the first fault.
 pub fn read_items<'a, R: ItemReader<'a>>(
     alloc: Global,
     reader: &R,
@@ -81,7 +81,7 @@ pub fn read_items<'a, R: ItemReader<'a>>(
     Ok(Reading { items, fault })
 }
 
-/// The items of these bytes, of which one that has a fault fails them all.
+/// Reads all items of these bytes. If one has a fault, the result is that error.
 pub fn read_all_items<'a, R: ItemReader<'a>>(
     alloc: Global,
     reader: &R,

@@ -1,9 +1,9 @@
-//! The streams of a PDB file, which is a container of the format MSF 7.00, and their bytes.
+//! Reads the streams of a PDB file, which is a container of the format MSF 7.00.
 //!
-//! A container has blocks of one size, of which a directory says which ones make each stream.
+//! A container consists of blocks of one size. Its directory says which blocks make up each stream.
 //!
-//! [`Container::open`] answers an error where the file as a whole can't be read, and [`Container::stream`] where a
-//! stream can't be, with one of the numbers of [`faults`]. [`Bytes`] is what is read off the front of a stream.
+//! [`Container::open`] returns an error if the file as a whole can't be read. [`Container::stream`] returns one if a
+//! stream can't be read, with one of the numbers of [`faults`]. [`Bytes`] reads values off the front of a stream.
 #![tactic(auto)]
 
 mod block_reads;

@@ -1,4 +1,4 @@
-//! The container of a PDB file (MSF 7.00): its superblock, its directory, and the blocks of each stream.
+//! `Container`: a PDB file in memory with its superblock, its directory and its streams.
 
 ghost use Rattle.std.specs.Prelude.{◌≡◌, ◌≤◌, length, slice_get, IfOk, MatchResult};
 ghost use Rattle.std.specs.Result.{result_ok};
@@ -21,7 +21,7 @@ use pdb_records::StreamError;
 use std::alloc::Global;
 use std::marker::Model;
 
-/// A file with its streams. Contracts see what the file means as a container.
+/// A file with its streams. Contracts see the container that the file's bytes define.
 #[derive(Drop)]
 pub struct Container<'a> {
     pub(crate) file: &'a [u8],
@@ -54,7 +54,7 @@ impl<'a> Model for Container<'a> {
 }
 
 impl<'a> Container<'a> {
-    /// The streams of a file, or why it can't be read as a whole.
+    /// Opens a file, or says why it can't be read as a whole.
     #[tactic(auto, using(crate::proofs::ExtentLemmas::opened), unfolding(crate::specs::Msf::container))]
     pub fn open(alloc: Global, file: &'a [u8]) -> Result<Self, ContainerError>
         ensures { Opens (λ opened. opened) result (container file.now) }
@@ -88,7 +88,7 @@ impl<'a> Container<'a> {
         self.file.len()
     }
 
-    /// The size of the stream of this number, if the stream is there.
+    /// The size of the stream with this number, if it exists.
     pub fn stream_size(&self, number: u32) -> Option<u32>
         ensures { result ≡ result_ok (size_of self.now number) }
     {
@@ -98,7 +98,7 @@ impl<'a> Container<'a> {
         }
     }
 
-    /// The bytes of the stream of this number. They don't depend on which streams were asked for before.
+    /// The bytes of the stream with this number. The result doesn't depend on earlier calls.
     #[tactic(auto, using(crate::proofs::SizeLemmas::stream_size), unfolding(crate::specs::Msf::stream_of))]
     pub fn stream(&self, alloc: Global, number: u32) -> Result<StreamBytes<'a>, Fault>
         ensures answer { Gives bytes_of result (stream_of self.now number) }
@@ -115,7 +115,7 @@ impl<'a> Container<'a> {
         )
     }
 
-    /// The blocks of the stream of this number.
+    /// The blocks of the stream with this number.
     #[tactic(auto, using(crate::proofs::SizeLemmas::block_bounds), unfolding(crate::specs::Msf::stream_of))]
     pub fn blocks(&self, alloc: Global, number: u32) -> Result<StreamBlocks, Fault>
         ensures answer { Gives (λ blocks. stream_in self.now.file blocks) result (stream_of self.now number) }
@@ -130,7 +130,7 @@ impl<'a> Container<'a> {
         Ok(StreamBlocks::new(grid, numbers, extent.size)?)
     }
 
-    // Where the directory has the stream of this number.
+    // The directory's entry of the stream with this number.
     #[tactic(auto, unfolding(crate::specs::Msf::size_of))]
     fn extent(&self, number: u32) -> Result<StreamExtent, StreamError>
         ensures size { MatchResult result (λ extent. size_of self.now number ≡ Ok extent.size)
@@ -161,7 +161,7 @@ impl<'a> Source for Container<'a> {
     }
 }
 
-// The stream of this number in a list.
+// The entry of the stream with this number in a list.
 pub(crate) fn extent_at(streams: &[StreamExtent], number: u32) -> Option<StreamExtent>
     ensures { result ≡ slice_get streams.now number }
 {

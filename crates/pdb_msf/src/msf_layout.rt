@@ -1,4 +1,4 @@
-//! Where the streams of a file stand that is read range by range.
+//! `MsfLayout`: which blocks make up each stream of a file that is read through a source.
 
 ghost use Rattle.std.specs.Prelude.{◌≡◌, ◌≤◌, ◌+◌, List, ℕ, drop, length, take, IfErr, IfOk, IfSome, MatchOption};
 ghost use Rattle.std.specs.Prelude.{OnOk};
@@ -29,7 +29,7 @@ use pdb_records::StreamError;
 use std::alloc::Global;
 use std::marker::Model;
 
-/// Where the streams of a file stand, which is read range by range.
+/// Which blocks make up each stream of a file that is read through a source.
 #[derive(Drop)]
 pub struct MsfLayout {
     pub(crate) grid: BlockGrid,
@@ -60,7 +60,7 @@ impl Model for MsfLayout {
 }
 
 impl MsfLayout {
-    /// Where the streams of a file of this length stand, or why it can't be read.
+    /// Reads the directory of a file of this length, or says why it can't be read.
     #[tactic(auto, using(crate::proofs::ExtentLemmas::opened), unfolding(crate::specs::Msf::container))]
     pub fn read<S: Source>(
         alloc: Global,
@@ -93,14 +93,14 @@ impl MsfLayout {
         })
     }
 
-    /// How long the file is.
+    /// The length of the file.
     pub fn file_length(&self) -> usize
         ensures { result ≡ self.now.file_length }
     {
         self.grid.file_length
     }
 
-    /// The bytes of the stream of this number, or why they can't be read.
+    /// Reads the bytes of the stream with this number, or says why they can't be read.
     #[tactic(auto, unfolding(crate::specs::Msf::stream_of))]
     pub fn load<S: Source>(
         &self,
@@ -124,7 +124,7 @@ impl MsfLayout {
         }
     }
 
-    /// The blocks of the stream of this number, or why it can't be read.
+    /// The blocks of the stream with this number, or why it can't be read.
     #[tactic(auto, using(crate::proofs::SizeLemmas::block_bounds), unfolding(crate::specs::Msf::stream_of))]
     pub fn blocks(
         &self,
@@ -145,7 +145,7 @@ impl MsfLayout {
         }
     }
 
-    // The numbers of the blocks of a stream that stands there.
+    // The block numbers of a stream.
     pub(crate) fn numbers(&self, alloc: Global, extent: StreamExtent) -> Result<Vec<u32>, Fault>
         ensures answer { Gives (λ numbers. numbers.items) result
             (listed (div_ceil extent.size self.now.block_size) (drop extent.numbers self.now.directory)) }
@@ -154,7 +154,7 @@ impl MsfLayout {
         block_numbers(alloc, &self.directory, self.grid.block_size, extent)
     }
 
-    // Where the directory has the stream of this number, if it is there.
+    // The directory's entry of the stream with this number, if it exists.
     #[tactic(auto, unfolding(crate::specs::Msf::size_of))]
     pub(crate) fn extent(&self, number: u32) -> Option<StreamExtent>
         ensures size { (file : List ℕ) → MatchOption result
@@ -171,7 +171,7 @@ impl MsfLayout {
     }
 }
 
-// The superblock of a file of this length.
+// Reads the superblock of a file of this length.
 #[tactic(auto, using(crate::proofs::FrontLemmas::superblock_of_read))]
 fn read_front<S: Source>(
     alloc: Global,
@@ -192,7 +192,7 @@ fn read_front<S: Source>(
     Ok(read_superblock(&front)?)
 }
 
-// The bytes of a range of the file, so many.
+// Reads `count` bytes of the file from the offset `place` on.
 fn read_range<S: Source>(
     alloc: Global,
     source: &mut S,
@@ -213,7 +213,7 @@ fn read_range<S: Source>(
     Ok(bytes)
 }
 
-// The directory's bytes.
+// Reads the directory's bytes.
 #[tactic(auto, unfolding(crate::specs::Directory::directory))]
 fn read_directory<S: Source>(
     alloc: Global,
@@ -241,7 +241,7 @@ fn read_directory<S: Source>(
     Ok(directory.map_err(Fault::Broken)?)
 }
 
-// The block map: the numbers of the directory's blocks.
+// Reads the block map: the numbers of the directory's blocks.
 #[tactic(auto, unfolding(crate::specs::Directory::block_map))]
 fn read_block_map<S: Source>(
     alloc: Global,
@@ -267,7 +267,7 @@ fn read_block_map<S: Source>(
     Ok(take_numbers(alloc, &mut Bytes::new(&map), count)?)
 }
 
-// The numbers of the block map's blocks, so many.
+// Reads the numbers of the block map's own blocks, which are `count`.
 #[tactic(auto, using(crate::proofs::FrontLemmas::listed_of_taken))]
 fn read_map_blocks<S: Source>(
     alloc: Global,

@@ -1,4 +1,4 @@
-//! Lists of numbers of four bytes, such as those of a stream's blocks.
+//! Reads lists of four-byte numbers, such as the numbers of a stream's blocks.
 
 ghost use Rattle.std.specs.Prelude.{◌≡◌, ◌≤◌, ◌+◌, ◌*◌, drop, length, IfOk, OnOk};
 ghost use Rattle.pdb_msf.specs.Faults.{Gives};
@@ -8,7 +8,7 @@ use crate::bytes::{Bytes, u32_at};
 use crate::faults::{CUT, Fault};
 use std::alloc::{AllocError, Global};
 
-/// So many numbers of four bytes, one after the other.
+/// Reads `count` four-byte numbers.
 #[tactic(auto, using(crate::proofs::NumberLemmas::taken), unfolding(crate::specs::NumberLists::listed))]
 pub fn take_numbers(alloc: Global, rest: &mut Bytes<'_>, count: usize) -> Result<Vec<u32>, Fault>
     ensures answer { Gives (λ taken. taken.items) result (listed count rest.old) }
@@ -23,7 +23,7 @@ pub fn take_numbers(alloc: Global, rest: &mut Bytes<'_>, count: usize) -> Result
     Ok(copy_numbers(alloc, bytes, count)?)
 }
 
-// The numbers that these bytes are.
+// The `count` four-byte numbers in these bytes.
 fn copy_numbers(alloc: Global, bytes: &[u8], count: usize) -> Result<Vec<u32>, AllocError>
     requires { 4 * count ≤ length bytes.now }
     ensures { IfOk result (λ copied. copied.items ≡ numbers count bytes.now) }
@@ -35,7 +35,7 @@ fn copy_numbers(alloc: Global, bytes: &[u8], count: usize) -> Result<Vec<u32>, A
     Ok(copied)
 }
 
-/// The number of four bytes that stands at a place.
+/// The four-byte number at an offset.
 pub fn number_at(bytes: &[u8], place: usize) -> u32
     requires { place + 4 ≤ length bytes.now }
     ensures { result ≡ number (drop place bytes.now) }
@@ -43,7 +43,7 @@ pub fn number_at(bytes: &[u8], place: usize) -> u32
     u32_at(bytes, place)
 }
 
-/// The bytes from a place on, or none where there are not so many.
+/// The bytes from an offset on; none if there are fewer bytes.
 pub fn bytes_from(bytes: &[u8], place: usize) -> &[u8]
     ensures { result.now ≡ drop place bytes.now }
 {

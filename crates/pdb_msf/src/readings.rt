@@ -1,11 +1,11 @@
-//! Lists that end early: what was read of them, and the fault that stands behind it.
+//! Readings: lists with the fault at which they end early, if any.
 
 ghost use Rattle.std.specs.Prelude.{◌≡◌, []};
 
 use pdb_records::{Reading, StreamError};
 use std::alloc::Global;
 
-/// A list of which nothing is read.
+/// An empty reading with this fault.
 pub fn nothing_read<T>(alloc: Global, fault: Option<StreamError>) -> Reading<T>
     ensures { result ≡ record { items = []; fault = fault } }
 {

@@ -1,21 +1,22 @@
-//! What the bytes of a file are read from, range by range.
+//! `Source`: reads ranges of a file's bytes, from memory or from the operating system.
 
 ghost use Rattle.std.specs.Prelude.{◌≡◌, ◌≤◌, ◌+◌, ℕ, List, Option, Some, OnErr, OnOk, IfSome, drop, length, take};
 
-/// A range of a file can't be read: the file ends before, or the system refuses it.
+/// A range of a file can't be read: the file ends earlier, or the operating system refuses it.
 #[derive(Debug, Clone, Copy, PartialEq, Eq)]
 pub struct RangeError;
 
-/// The bytes of a file, which are read range by range.
+/// A file whose bytes are read range by range.
 pub trait Source {
-    /// The bytes of the file, where the source says them. Of a file of the system nothing is known before it is read.
+    /// The bytes of the file, if the source says them. For a file of the operating system nothing is known before it is
+    /// read.
     ghost bytes: { Self → Option (List ℕ) };
 
-    /// From which place on a range of the file may be refused: one that ends before it is always read. It is 0 where
-    /// any range may be refused, as of a file of the system.
+    /// Ranges that end before this offset are never refused. It is 0 if any range may be refused, as for a file of the
+    /// operating system.
     ghost refuses_from: { Self → ℕ };
 
-    /// Fills a buffer with the bytes from a place of the file on.
+    /// Fills a buffer with the file's bytes from the offset `place` on.
     fn read_exact_at(&mut self, buffer: &mut [u8], place: usize) -> Result<(), RangeError>
         ensures read { OnOk result (IfSome (bytes self.old) (λ file.
             buffer.new ≡ take (length buffer.old) (drop place file))) }

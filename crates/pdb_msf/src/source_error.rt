@@ -1,4 +1,4 @@
-//! Why a file that is read range by range can't be read further, or not at all.
+//! Errors of files that are read through a source: why they can't be read further, or not at all.
 
 ghost use Rattle.std.specs.Prelude.{◌≡◌, IfErr, IfOk, MatchResult};
 
@@ -15,7 +15,7 @@ pub enum SourceError {
     /// A range of the file can't be read.
     #[error("a range of the file can't be read")]
     Unreadable,
-    /// There was no memory.
+    /// Memory ran out.
     #[error("out of memory")]
     OutOfMemory,
 }
@@ -23,7 +23,7 @@ pub enum SourceError {
 /// Why a file can't be read at all.
 #[derive(Debug, Clone, Copy, PartialEq, Eq, Error)]
 pub enum OpenError {
-    /// The file is no PDB file that is read, or there was no memory.
+    /// The file isn't a PDB file that can be read, or memory ran out.
     #[error("{0}")]
     Container(ContainerError),
     /// A range of the file can't be read.
@@ -97,7 +97,7 @@ impl From<SourceError> for OpenError {
     }
 }
 
-/// The part, or why it alone is broken.
+/// Separates the two faults: a broken part becomes the inner error, and only out of memory stays the outer one.
 pub fn part_of_source<T>(outcome: Result<T, Fault>) -> Result<Result<T, StreamError>, SourceError>
     ensures answer { IfOk result (λ part. MatchResult part (λ value. outcome ≡ Ok value)
         (λ error. outcome ≡ Err (Fault.Broken error))) }

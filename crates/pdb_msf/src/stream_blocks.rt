@@ -1,4 +1,4 @@
-//! A stream of a file that is read range by range: the blocks that it stands in, and ranges of its bytes.
+//! `StreamBlocks`: the blocks of a stream in a file that is read through a source, and ranges of its bytes.
 
 ghost use Rattle.std.specs.Prelude.{◌≡◌, ◌≤◌, ◌<◌, ◌*◌, ◌^◌, ℕ, List, Option, length, take, drop};
 ghost use Rattle.std.specs.Prelude.{IfErr, IfOk, IfSome, OnOk};
@@ -12,7 +12,7 @@ use crate::source_error::SourceError;
 use pdb_records::StreamError;
 use std::marker::Model;
 
-/// The blocks that a stream of a file stands in, which the file has as a whole.
+/// The blocks of a stream. All of them are completely inside the file.
 #[derive(Drop)]
 pub struct StreamBlocks {
     grid: BlockGrid,
@@ -44,7 +44,7 @@ impl Model for StreamBlocks {
 }
 
 impl StreamBlocks {
-    // The blocks of these numbers, for a stream of this size.
+    // The blocks with these numbers, for a stream of this size.
     #[tactic(auto, unfolding(crate::specs::Streams::stream_inside))]
     pub(crate) fn new(grid: BlockGrid, numbers: Vec<u32>, size: u32) -> Result<Self, StreamError>
         requires least { 512 ≤ grid.block_size }
@@ -64,7 +64,7 @@ impl StreamBlocks {
         })
     }
 
-    /// How many bytes the stream has.
+    /// The length of the stream in bytes.
     pub fn len(&self) -> usize
         ensures answer { result ≡ self.now.size }
         ensures below { result < 2 ^ 32 }
@@ -73,7 +73,8 @@ impl StreamBlocks {
         self.size as usize
     }
 
-    /// Puts the stream's bytes from a place on, so many, or as many as are there, in place of those of a list.
+    /// Replaces `bytes` by `count` bytes of the stream from the offset `place` on, or by fewer if the stream ends
+    /// earlier.
     pub fn read_range<S: Source>(
         &self,
         source: &mut S,
@@ -114,7 +115,7 @@ impl StreamBlocks {
     }
 }
 
-// The numbers from a position on, so many, or as many as are there.
+// The `count` numbers from a position on, or fewer if the list ends earlier.
 fn numbers_from(numbers: &[u32], first: usize, count: usize) -> &[u32]
     ensures { result.now ≡ take count (drop first numbers.now) }
 {

@@ -1,4 +1,4 @@
-//! Some streams of a file that is read range by range, in memory as a container of their own.
+//! `StreamSubset`: some streams of a file in memory, as a container of their own.
 
 ghost use Rattle.std.specs.Prelude.{◌≡◌, ◌≢◌, ◌≤◌, ◌<◌, ◌+◌, ◌-◌, ◌*◌, ◌^◌, ◌++◌, ℕ, drop, length, take};
 ghost use Rattle.std.specs.Prelude.{IfErr, IfOk, OnErr, OnOk};
@@ -20,13 +20,14 @@ use byteorder::{ByteOrder, LittleEndian};
 use std::alloc::{AllocError, Global};
 use std::marker::Model;
 
-/// Some streams of a file in memory. Contracts see the container that they are: its streams have the numbers, and the
-/// sizes, that they have in the file, and their blocks are numbered by the order in which they were added.
+/// Some streams of a file in memory. Contracts see the container that they form. Its streams have the same numbers and
+/// sizes as in the file. Its blocks are numbered in the order in which they were added.
 #[derive(Drop)]
 pub struct StreamSubset {
     blocks: Vec<u8>,
     block_size: usize,
-    /// The directory of the file, in which a block that wasn't added lies outside.
+    /// The directory of the file with new block numbers. The number of a block that wasn't added is outside the
+    /// container.
     directory: Vec<u8>,
     streams: Vec<StreamExtent>,
 }
@@ -56,7 +57,7 @@ impl Model for StreamSubset {
 }
 
 impl StreamSubset {
-    /// An excerpt of a file, without any stream's bytes: all blocks lie outside.
+    /// A subset without the bytes of any stream: all block numbers are outside the container.
     pub fn new(alloc: Global, map: &MsfLayout) -> Result<Self, AllocError>
         ensures { IfOk result (λ excerpt. IsSubsetOf excerpt map.now) }
     {
@@ -71,8 +72,8 @@ impl StreamSubset {
         })
     }
 
-    /// Adds the bytes of the stream of this number. One that can't be read is broken in the excerpt as in the file. All
-    /// other streams stay as they were.
+    /// Adds the bytes of the stream with this number. If the stream can't be read in the file, it can't be read in the
+    /// subset either. All other streams stay as they were.
     pub fn add<S: Source>(
         &mut self,
         alloc: Global,
@@ -97,7 +98,7 @@ impl StreamSubset {
         let Ok(numbers) = part_of_source(map.numbers(alloc, extent))? else {
             return Ok(());
         };
-        // The blocks of the excerpt's file have its own size.
+        // The blocks of both files have the same size.
         let grid = BlockGrid {
             block_size: self.block_size,
             ..map.grid
@@ -107,7 +108,7 @@ impl StreamSubset {
         Ok(())
     }
 
-    /// The container that the streams are.
+    /// The container that the streams form.
     pub fn container(&self, alloc: Global) -> Result<Container<'_>, AllocError>
         ensures { IfOk result (λ container. container ≡ self.now) }
     {
@@ -121,7 +122,7 @@ impl StreamSubset {
     }
 }
 
-// Numbers no block behind the sizes of so many streams.
+// Sets all block numbers in a directory of `streams` streams to one that is outside every file.
 fn number_none(directory: &mut [u8], streams: usize)
     ensures none { (place : ℕ) → streams < place → 4 * place + 4 ≤ length directory.new
         → number_at directory.new place ≡ no_block }
@@ -133,8 +134,8 @@ fn number_none(directory: &mut [u8], streams: usize)
     }
 }
 
-// Appends blocks of a file to those of an excerpt, and numbers them there at a place of its directory, if they fit.
-// Where one lies outside of the file, the first lies outside of the excerpt.
+// Appends blocks of a file to those of the subset, and writes their new numbers at an offset of its directory, if they
+// fit. If one of the blocks is outside the file, the first number is set outside the subset.
 fn append_numbered<S: Source>(
     source: &mut S,
     grid: BlockGrid,
@@ -176,7 +177,7 @@ fn append_numbered<S: Source>(
     Ok(())
 }
 
-// Fills up the last block. How many there are, where so many more can be numbered behind them.
+// Pads the last block. Returns the number of blocks, if `count` more can be numbered after them.
 #[tactic(auto, using(crate::proofs::BlockLemmas::start_below))]
 fn fill_up(blocks: &mut Vec<u8>, block_size: usize, count: usize) -> Result<usize, SourceError>
     requires least { 512 ≤ block_size }
@@ -195,7 +196,7 @@ fn fill_up(blocks: &mut Vec<u8>, block_size: usize, count: usize) -> Result<usiz
     Ok(first)
 }
 
-// Writes numbers that follow one another, four bytes each, at a place.
+// Writes `count` consecutive numbers from `first` on, four bytes each, at an offset.
 fn write_numbers(directory: &mut [u8], place: usize, first: usize, count: usize)
     requires room { 4 * count ≤ length directory.old - place }
     requires small { first + count ≤ 2 ^ 32 }
@@ -209,7 +210,7 @@ fn write_numbers(directory: &mut [u8], place: usize, first: usize, count: usize)
     }
 }
 
-// Writes a number of four bytes at a place.
+// Writes a four-byte number at an offset.
 fn write_number(directory: &mut [u8], place: usize, number: u32)
     requires { place + 4 ≤ length directory.old }
     ensures answer { drop place directory.new ≡ little_bytes 4 number ++ drop 4 (drop place directory.old) }

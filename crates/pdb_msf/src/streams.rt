@@ -1,4 +1,4 @@
-//! The bytes of a stream by the list of its blocks: in the file itself where they follow one another, else copied.
+//! Reads the bytes of a stream by its block numbers: in place if the blocks are consecutive, otherwise copied.
 
 ghost use Rattle.std.specs.Prelude.{◌≡◌, ◌≤◌, ◌<◌, ◌+◌, ◌*◌, ◌^◌, length, IfSome, MatchOption};
 ghost use Rattle.pdb_msf.specs.Faults.{Gives};
@@ -7,7 +7,7 @@ ghost use Rattle.pdb_msf.specs.Streams.{block, stream_inside, bytes_of};
 use crate::faults::{BLOCK_OUTSIDE, Fault};
 use std::alloc::Global;
 
-/// The bytes of a stream: in the file itself where its blocks follow one another there, else a copy.
+/// The bytes of a stream: a slice of the file if its blocks are consecutive, otherwise a copy.
 #[derive(Drop)]
 pub enum StreamBytes<'a> {
     InPlace(&'a [u8]),
@@ -26,9 +26,9 @@ impl StreamBytes<'_> {
     }
 }
 
-/// The bytes of the stream that stands in these blocks of the file, in their order, and is so long.
+/// The bytes of a stream in these blocks of the file, cut to its length.
 ///
-/// [`BLOCK_OUTSIDE`] where a block doesn't lie in the file as a whole.
+/// The error is [`BLOCK_OUTSIDE`] if a block isn't completely inside the file.
 pub fn read_stream<'a>(
     alloc: Global,
     file: &'a [u8],
@@ -45,14 +45,14 @@ pub fn read_stream<'a>(
     Ok(StreamBytes::Copied(bytes))
 }
 
-// Where the block of this number starts in a file of such blocks.
+// The offset of the block with this number.
 fn block_start(block_size: usize, number: u32) -> Option<usize>
     ensures { MatchOption result (2 ^ 64 ≤ number * block_size) (λ start. start ≡ number * block_size) }
 {
     (number as usize).checked_mul(block_size)
 }
 
-// The bytes of the block of this number, where the file has the whole of it.
+// The bytes of the block with this number, if it is completely inside the file.
 fn block_of(file: &[u8], block_size: usize, number: u32) -> Option<&[u8]>
     ensures { MatchOption result (length file.now < number * block_size + block_size)
         (λ bytes. (number * block_size + block_size ≤ length file.now)
@@ -63,7 +63,7 @@ fn block_of(file: &[u8], block_size: usize, number: u32) -> Option<&[u8]>
     Some(bytes)
 }
 
-// The stream's bytes in the file, where its blocks follow one another.
+// The slice of the file that is the stream, if its blocks are consecutive.
 #[tactic(auto, unfolding(crate::specs::Streams::stream_inside))]
 fn in_place<'a>(
     file: &'a [u8],
@@ -90,7 +90,7 @@ fn in_place<'a>(
     Some(bytes)
 }
 
-// The stream's bytes, block by block.
+// Copies the stream's bytes, block by block.
 #[tactic(auto, unfolding(crate::specs::Streams::stream_inside))]
 fn copied(
     alloc: Global,

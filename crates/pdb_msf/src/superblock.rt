@@ -1,4 +1,4 @@
-//! The superblock, which a file begins with: the size of its blocks, and how long its directory is.
+//! Reads the superblock at the start of a file: the size of its blocks, and the size of its directory.
 
 ghost use Rattle.std.specs.Prelude.{◌≡◌, ◌≤◌, IsTrue, IfOk, OnOk, length};
 ghost use Rattle.pdb_msf.specs.Superblock.{is_msf, is_block_size, superblock};
@@ -6,26 +6,26 @@ ghost use Rattle.pdb_msf.specs.Superblock.{is_msf, is_block_size, superblock};
 use crate::container_error::{ContainerError, other_file};
 use crate::number_lists::number_at;
 
-/// The bytes that a file of this format begins with.
+/// The first bytes of a file of this format.
 const MAGIC: [u8; 32] = *b"Microsoft C/C++ MSF 7.00\r\n\x1aDS\0\0\0";
 
-/// The bytes of the superblock.
+/// The size of the superblock in bytes.
 pub(crate) const SUPERBLOCK: usize = 56;
 
-/// Where it has the size of a block.
+/// The offset of the block size.
 const BLOCK_SIZE: usize = 32;
 
-/// Where it has the number of the directory's bytes.
+/// The offset of the directory's size.
 const DIRECTORY_SIZE: usize = 44;
 
-/// What the superblock says of the directory.
+/// The fields of the superblock that are needed to read the directory.
 #[derive(Clone, Copy)]
 pub struct Superblock {
     pub block_size: usize,
     pub directory_size: u32,
 }
 
-/// The superblock of a file, or why that is no file of this format.
+/// Reads the superblock of a file, or says why the file doesn't have this format.
 #[tactic(auto, unfolding(crate::specs::Superblock::superblock))]
 pub fn read_superblock(file: &[u8]) -> Result<Superblock, ContainerError>
     ensures answer { result ≡ superblock file.now }
@@ -49,7 +49,7 @@ pub fn read_superblock(file: &[u8]) -> Result<Superblock, ContainerError>
     })
 }
 
-// Whether a file begins as those of this format do.
+// Whether a file begins with `MAGIC`.
 #[tactic(auto, unfolding(crate::specs::Superblock::is_msf))]
 fn is_msf(file: &[u8]) -> bool
     ensures { result ≡ is_msf file.now }
@@ -57,7 +57,7 @@ fn is_msf(file: &[u8]) -> bool
     file.starts_with(&MAGIC)
 }
 
-// Whether the format has blocks of this size.
+// Whether this is a valid block size.
 #[tactic(auto, unfolding(crate::specs::Superblock::is_block_size))]
 fn is_block_size(size: u32) -> bool
     ensures answer { result ≡ is_block_size size }

@@ -1,4 +1,4 @@
--- Which indices printing asks for.
+-- The indices that printing looks up.
 use Rattle.std.specs.Prelude.{◌≡◌, ⊤, ℕ, Bool, true, List, [], ◌∷◌, Option, Some, None, Ok}
 use Rattle.std.specs.List.{AllByRecursion}
 use Rattle.pdb_records.specs.declared.types.TypeIndex.{TypeIndex}
@@ -29,7 +29,7 @@ abbrev pub alone : {A : Type 0} → Option A → List A
 alone None = []
 alone (Some value) = value ∷ []
 
--- the types that printing a type may ask for
+-- the types that printing a type may look up
 abbrev pub types_behind : TypeData → List TypeIndex
 types_behind (type.MemberFunction m) = m.return_type ∷ m.class_type ∷ m.argument_list ∷ alone m.this_pointer_type
 types_behind (type.Procedure p) = p.argument_list ∷ alone p.return_type
@@ -39,19 +39,19 @@ types_behind (type.Modifier m) = m.underlying_type ∷ []
 types_behind (type.ArgumentList list) = list
 types_behind other = []
 
--- the sizes that printing a type may ask for: that of an array's element
+-- the sizes that printing a type may look up: that of an array's element
 abbrev pub sizes_behind : TypeData → List TypeIndex
 sizes_behind (type.Array a) = a.element_type ∷ []
 sizes_behind other = []
 
--- the types that printing an id may ask for
+-- the types that printing an id may look up
 abbrev pub types_behind_id : IdData → List TypeIndex
 types_behind_id (id.MemberFunction method) = method.function_type ∷ method.parent ∷ []
 types_behind_id (id.Function function) = function.function_type ∷ []
 types_behind_id (id.StringList substrings) = substrings
 types_behind_id other = []
 
--- the ids that printing an id may ask for: the scope of a function
+-- the ids that printing an id may look up: the scope of a function
 abbrev pub ids_behind_id : IdData → List IdIndex
 ids_behind_id (id.Function function) = alone function.scope
 ids_behind_id other = []
@@ -64,23 +64,23 @@ AreTypesIn is_in indices = AllByRecursion (λ index. is_in index.0 ≡ true) ind
 abbrev pub AreIdsIn : (ℕ → Bool) → List IdIndex → Type 0
 AreIdsIn is_in indices = AllByRecursion (λ index. is_in index.0 ≡ true) indices
 
--- printing this type asks only for indices of the sets
+-- printing this type looks up only indices of the sets
 pub record TypeAsksAt (at : Indices) (content : TypeData) : Type 0 where
   pub types : AreTypesIn at.types (types_behind content)
   pub sizes : AreTypesIn at.sizes (sizes_behind content)
 
--- printing this id asks only for indices of the sets
+-- printing this id looks up only indices of the sets
 pub record IdAsksAt (at : Indices) (content : IdData) : Type 0 where
   pub types : AreTypesIn at.types (types_behind_id content)
   pub ids : AreIdsIn at.ids (ids_behind_id content)
 
--- no type or id at an index of the sets asks for an index outside them
+-- no type or id at an index of the sets refers to an index outside them
 pub record IsClosedAt (at : Indices) (w : PrintInputs) : Type 0 where
   pub types : (index : ℕ) (content : TypeData) → at.types index ≡ true → w.read index ≡ Ok content
       → TypeAsksAt at content
   pub ids : (index : ℕ) (content : IdData) → at.ids index ≡ true → w.read_id index ≡ Ok content → IdAsksAt at content
 
--- a task asks only for indices of the sets
+-- a task looks up only indices of the sets
 abbrev pub TaskAsksAt : Indices → Task → Type 0
 TaskAsksAt at (Index index) = at.types index ≡ true
 TaskAsksAt at (OfType content) = TypeAsksAt at content
@@ -91,7 +91,7 @@ TaskAsksAt at (Modified constant target) = at.types target ≡ true
 TaskAsksAt at (Elements elements levels next) = (at.types next ≡ true) × (at.sizes next ≡ true)
 TaskAsksAt at (Id met index) = at.ids index ≡ true
 
--- each task of a plan asks only for indices of the sets
+-- each task of a plan looks up only indices of the sets
 abbrev pub AsksAt : Indices → Plan → Type 0
 AsksAt at (Done document) = ⊤
 AsksAt at (Later inside task) = TaskAsksAt at task

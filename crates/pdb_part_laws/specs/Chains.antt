@@ -8,7 +8,7 @@ use Rattle.pdb_types.specs.SizeLaws.{Leads}
 use Rattle.pdb_types.specs.TypeInputs.{LinkInputs}
 use Rattle.pdb_types.specs.TypeSizes.{step}
 
--- two lists of types say the same of each of these indices: what follows it in a chain, or the size that ends it there
+-- two lists of types agree on each of these indices: on the next index of its chain, or on the size at its end
 abbrev pub AgreeOn : (ℕ → Bool) → LinkInputs → Read (Item TypeIndex TypeData) → LinkInputs
     → Read (Item TypeIndex TypeData) → ℕ → ℕ → Type 0
 AgreeOn is_in link types other_link others pointer module_index =

@@ -1,6 +1,6 @@
-//! Laws on what answers depend on: where a part of the records gives the answers of the whole.
+//! Laws on what answers depend on: which part of the records gives the same answers as all of them.
 //!
-//! Each function here does nothing. Its contract is a law, for all records, and the check proves it.
+//! Each function here does nothing. Its contract states a law, which the checker proves for all records.
 #![tactic(auto)]
 
 pub mod printing;

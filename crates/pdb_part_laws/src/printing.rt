@@ -1,4 +1,4 @@
-//! What the printing of types and ids depends on.
+//! Law on what the printing of types and ids depends on.
 
 ghost use Rattle.std.specs.Prelude.{◌≡◌, ℕ, true, List};
 ghost use Rattle.pdb_type_texts.specs.PrintInputs.{PrintInputs};
@@ -8,9 +8,9 @@ ghost use Rattle.pdb_type_texts.specs.Ids.{id_of_index};
 ghost use Rattle.pdb_type_texts.specs.Signatures.{signature};
 ghost use Rattle.pdb_part_laws.specs.Asked.{Indices, AgreeAt, IsClosedAt, AsksAt};
 
-/// What is printed depends on the indices that it asks for, and on nothing else. Take sets of indices that no record in
-/// them leaves, and two print inputs that agree on these indices: then both print the same document for each plan that
-/// asks only for these indices, for each signature, and for each id.
+/// What is printed depends only on the indices that printing looks up. Take sets of indices that no record in them
+/// refers out of, and two print inputs that agree on these indices. Then both inputs print the same document for each
+/// plan that looks up only these indices, for each signature, and for each id.
 pub fn printing_depends_on_what_it_reads()
     ensures documents { (w other : PrintInputs) (at : Indices) → AgreeAt at w other → IsClosedAt at w
         → (p : Plan) → AsksAt at p → document_of w p ≡ document_of other p }

@@ -1,4 +1,4 @@
-//! What the size of a type depends on.
+//! Law on what the size of a type depends on.
 
 ghost use Rattle.std.specs.Prelude.{◌≡◌, ℕ, Bool, true};
 ghost use Rattle.pdb_records.specs.Readings.{Read};
@@ -9,8 +9,8 @@ ghost use Rattle.pdb_types.specs.TypeInputs.{LinkInputs};
 ghost use Rattle.pdb_types.specs.TypeSizes.{type_size};
 ghost use Rattle.pdb_part_laws.specs.Chains.{AgreeOn, IsClosed};
 
-/// The size of a type depends on its chain alone: two lists of types give it the same size where they say the same of
-/// each index of a set that the chain doesn't leave.
+/// The size of a type depends only on its chain. Take a set of indices that the chain doesn't leave. Two lists of types
+/// that agree on each index of the set give the type the same size.
 pub fn sizes_depend_on_their_chain()
     ensures sizes { (link other_link : LinkInputs) (types others : Read (Item TypeIndex TypeData))
         (pointer module_index : ℕ) (is_in : ℕ → Bool)

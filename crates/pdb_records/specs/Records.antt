@@ -13,7 +13,7 @@ use Rattle.pdb_records.specs.declared.ids.IdData.{IdData}
 use Rattle.pdb_records.specs.declared.strings.StringRef.{StringRef}
 use Rattle.pdb_records.specs.declared.modules.ModuleInfo.{ModuleInfo}
 
--- each stream with what it holds, or the fault that it failed with
+-- the content of each stream, or the fault of the stream
 pub record Records : Type 0 where
   pub sections : Result (Option (List ImageSectionHeader)) StreamError
   pub address_map : Result (List AddressRange) StreamError

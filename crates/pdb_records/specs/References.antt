@@ -10,18 +10,18 @@ use Rattle.pdb_records.specs.declared.strings.StringRef.{StringRef}
 abbrev pub imported_module : List Imported → ℕ → Option Imported
 imported_module modules index = slice_get modules ((index / 2 ^ 20) % 2 ^ 11)
 
--- the module's name and its number for an import, which stands at bits 0 to 19
+-- the name of an imported module, and the number there for an import's index, whose bits 0 to 19 are the position
 abbrev pub import_at : List Imported → ℕ → Option (StringRef × ℕ)
 import_at modules index =
     option_and_then (λ m. option_map (λ number. (m.module_name, number)) (slice_get m.locals (index % 2 ^ 20)))
     (imported_module modules index)
 
--- what is there, or the error that names the index
+-- the import that was found, or the error with its index
 abbrev pub found_import : ℕ → Option (StringRef × ℕ) → Result (StringRef × ℕ) Error
 found_import index None = Err (CrossModuleRefNotFound index)
 found_import index (Some entry) = Ok entry
 
--- what an import's index stands for
+-- the import for an index
 abbrev pub imported : List Imported → ℕ → Result (StringRef × ℕ) Error
 imported modules index = found_import index (import_at modules index)
 

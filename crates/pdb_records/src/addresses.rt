@@ -1,4 +1,4 @@
-//! Addresses, section offsets and sections, and how an address and a section offset lead to one another.
+//! Addresses, section offsets and sections, and the conversion between addresses and section offsets.
 
 ghost use Rattle.std.specs.Prelude.{◌≡◌};
 ghost use Rattle.std.specs.Option.{option_copied};
@@ -10,37 +10,37 @@ use std::marker::Model;
 #[derive(Clone, Copy, PartialEq, Eq, PartialOrd, Ord, Hash)]
 pub struct Rva(pub u32);
 
-/// A section offset: a section, counted from 1, and bytes from its start.
+/// A section offset: a section's number, counted from 1, and an offset in that section.
 #[derive(Clone, Copy, PartialEq, Eq, PartialOrd, Ord, Hash)]
 pub struct PdbInternalSectionOffset {
     /// The section's number.
     pub section: u16,
-    /// Bytes from the section's start.
+    /// The offset in bytes from the section's start.
     pub offset: u32,
 }
 
-/// A section as the program's headers list it.
+/// A section, as the program's section headers list it.
 #[derive(Clone, Copy)]
 pub struct ImageSectionHeader {
-    /// Where the section starts, relative to where the program is loaded.
+    /// The start of the section, relative to where the program is loaded.
     pub virtual_address: u32,
     /// Its size in bytes.
     pub virtual_size: u32,
-    /// Whether its bytes are code.
+    /// Whether the section is executable.
     pub execute: bool,
 }
 
 /// The addresses of one section.
 #[derive(Clone, Copy)]
 pub struct AddressRange {
-    /// Where the section starts, relative to where the program is loaded.
+    /// The start of the section, relative to where the program is loaded.
     pub virtual_address: u32,
     /// Its size in bytes.
     pub virtual_size: u32,
 }
 
 impl AddressRange {
-    // Whether the address lies in the section.
+    // Whether the section contains the address.
     fn holds(self, address: u32) -> bool
         ensures { result ≡ holds address self }
     {
@@ -49,7 +49,7 @@ impl AddressRange {
     }
 }
 
-/// The sections of a program in order. The first has the number 1, and none has one past 65535.
+/// The sections of a program in order. The first has the number 1. Sections after number 65535 can't be named.
 pub struct AddressMap {
     pub sections: Vec<AddressRange>,
 }
@@ -70,9 +70,8 @@ impl Model for AddressMap {
 }
 
 impl Rva {
-    /// The section offset of this address: the first section in order that holds it, and the bytes from that
-    /// section's start. `None` where no section holds it, or the first that does has a number past
-    /// 65535.
+    /// The section offset of this address: the first section in order that contains it, and the offset from that
+    /// section's start. `None` if no section contains it, or the number of the first that does is greater than 65535.
     pub fn to_internal_offset(self, address_map: &AddressMap) -> Option<PdbInternalSectionOffset>
         ensures { result ≡ internal_offset address_map.now self }
     {
@@ -92,8 +91,8 @@ impl Rva {
 }
 
 impl PdbInternalSectionOffset {
-    /// The address of this section offset. `None` where there is no such section, or the address would not
-    /// fit 32 bits. The offset may lie past the section's end.
+    /// The address of this section offset. `None` if there is no such section, or the address doesn't fit 32 bits. The
+    /// offset may be after the section's end.
     pub fn to_rva(self, address_map: &AddressMap) -> Option<Rva>
         ensures { result ≡ rva address_map.now self }
     {

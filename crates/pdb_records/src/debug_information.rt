@@ -1,11 +1,11 @@
-//! The machine of a program, the list of its modules, and which bytes of its sections came from which.
+//! The machine of a program, the list of its modules, and its section contributions.
 
 use crate::addresses::PdbInternalSectionOffset;
 use crate::error::StreamError;
 use crate::raw_string::RawString;
 use crate::reading::Reading;
 
-/// The processor that a program runs on, as far as it decides the size of a pointer.
+/// The machine of a program, as far as it decides the size of a pointer.
 #[derive(Clone, Copy, PartialEq, Eq)]
 pub enum MachineType {
     Amd64,
@@ -16,7 +16,7 @@ pub enum MachineType {
     Other,
 }
 
-/// What was compiled into the program, and where it went.
+/// The debug information of a program: its machine, its modules, and which bytes came from each module.
 pub struct DebugInformation {
     pub machine_type: Result<MachineType, StreamError>,
     pub modules: Reading<Module>,
@@ -33,7 +33,7 @@ impl Drop for DebugInformation {
     }
 }
 
-/// A file that was linked into the program.
+/// A module: a file that was linked into the program.
 #[derive(Clone)]
 pub struct Module {
     pub name: RawString,
@@ -45,7 +45,7 @@ impl Drop for Module {
     }
 }
 
-/// Bytes of a section that came from one module.
+/// A section contribution: a range of bytes of a section that came from one module.
 #[derive(Clone, Copy)]
 pub struct SectionContribution {
     pub offset: PdbInternalSectionOffset,

@@ -1,23 +1,23 @@
-//! The records of ids: functions that may be inlined, their scopes, and texts.
+//! The records of ids: functions that may be inlined, their scopes, and strings.
 
 use crate::raw_string::RawString;
 use crate::types::{ItemInformation, TypeIndex};
 use std::marker::Model;
 
-/// The number of an id. One with bit 31 set names an import of the module that asks.
+/// The index of an id. If bit 31 is set, it is a cross-module index: an import of the module that uses it.
 #[derive(Clone, Copy, PartialEq, Eq, PartialOrd, Ord, Hash)]
 pub struct IdIndex(pub u32);
 
-/// The ids of a program: functions that may be inlined, their scopes, and texts.
+/// The ids of a program: functions that may be inlined, their scopes, and strings.
 pub type IdInformation = ItemInformation<IdIndex, IdData>;
 
-/// What an entry of the ids says.
+/// The content of an id.
 pub enum IdData {
     MemberFunction(MemberFunctionId),
     Function(FunctionId),
     String(StringId),
     StringList(StringListId),
-    /// A kind that is read and not printed.
+    /// A known kind that isn't printed.
     Other(UnhandledId),
 }
 
@@ -33,7 +33,7 @@ impl Drop for IdData {
     }
 }
 
-/// A function of a class.
+/// A member function of a class.
 pub struct MemberFunctionId {
     pub parent: TypeIndex,
     pub function_type: TypeIndex,
@@ -50,9 +50,9 @@ impl Drop for MemberFunctionId {
     }
 }
 
-/// A function of no class.
+/// A function that isn't a member of a class.
 pub struct FunctionId {
-    /// The namespace that it stands in, where there is one.
+    /// The namespace that contains it, if there is one.
     pub scope: Option<IdIndex>,
     pub function_type: TypeIndex,
     pub name: RawString,
@@ -68,7 +68,7 @@ impl Drop for FunctionId {
     }
 }
 
-/// A text, as the name of a namespace.
+/// A string, such as the name of a namespace.
 pub struct StringId {
     pub name: RawString,
 }
@@ -79,7 +79,7 @@ impl Drop for StringId {
     }
 }
 
-/// A text that other texts make, one after another.
+/// A string that is the concatenation of other strings.
 pub struct StringListId {
     pub substrings: Vec<TypeIndex>,
 }
@@ -99,9 +99,9 @@ impl Model for StringListId {
     ghost view = { λ l. l.substrings.items };
 }
 
-/// An id of a kind that is read and not printed.
+/// An id of a known kind that isn't printed.
 pub struct UnhandledId {
-    /// What the kind is called.
+    /// The name of the kind.
     pub kind_name: String,
 }
 

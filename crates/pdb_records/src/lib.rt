@@ -1,10 +1,10 @@
 //! The records of a program database: symbols, line rows, types and modules, as plain values.
 //!
-//! Nothing here reads a file. A reader of the binary container, or of a records file, fills these
-//! records in; whatever the records say, the crates above give an answer or a named error.
+//! This crate doesn't read files. A reader of PDB files or of records files fills in these records. For any records,
+//! the crates above return an answer or a named error.
 //!
-//! Each record that is not `Copy` has a drop of its own in place of a derived one, which would be proved again in each
-//! crate that lets such a record go.
+//! Each record that isn't `Copy` implements `Drop` by hand. A derived one would be proved again in each crate that
+//! drops such a record.
 #![tactic(auto)]
 
 mod addresses;

@@ -1,4 +1,4 @@
-//! The line program of a module: line rows by the section offset of their function, and source files.
+//! The line program of a module: line rows by the section offsets of functions, and source files.
 
 ghost use Rattle.std.specs.Prelude.{◌≡◌, slice_get};
 ghost use Rattle.std.specs.Option.{option_copied};
@@ -51,10 +51,10 @@ impl Drop for SymbolLines {
     }
 }
 
-/// The code from an offset on comes from a line.
+/// A line row: the code from an offset on comes from this line.
 #[derive(Clone, Copy)]
 pub struct LineInfo {
-    /// Bytes from the start of the function's section.
+    /// The offset in bytes from the start of the function's section.
     pub offset: u32,
     pub file_index: FileIndex,
     pub line_start: u32,
@@ -63,12 +63,13 @@ pub struct LineInfo {
 /// A source file.
 #[derive(Clone, Copy)]
 pub struct FileInfo {
-    /// Where its name stands in the string table.
+    /// The reference of its name in the string table.
     pub name: StringRef,
 }
 
 impl LineProgram {
-    /// The line rows of the function that starts at this very section offset, of the first entry for it.
+    /// The line rows of the function that starts at exactly this section offset. If it has several entries, the first
+    /// one counts.
     pub fn lines_for_symbol(&self, offset: PdbInternalSectionOffset) -> Option<&Reading<LineInfo>>
         ensures { option_copied result ≡ lines_at offset self.now.entries }
     {

@@ -1,4 +1,4 @@
-//! The provider, which hands in the records of a module when they are asked for.
+//! `ModuleProvider`: supplies the records of a module when they are needed.
 
 ghost use Rattle.std.specs.Prelude.{◌≡◌, ℕ, Option, Result};
 ghost use Rattle.pdb_records.specs.declared.error.StreamError.{StreamError};
@@ -10,15 +10,15 @@ use crate::debug_information::Module;
 use crate::error::StreamError;
 use crate::modules::ModuleInfo;
 
-/// Hands in the records of a module when they are asked for.
+/// Supplies the records of a module when they are needed.
 ///
-/// An implementation may read them from elsewhere, and has to answer equal questions alike: its answer
-/// is a function of its own value, the module index and the module.
+/// An implementation may read them from elsewhere. It must give the same answer to the same question: its answer is a
+/// function of its own value, the module index and the module.
 pub trait ModuleProvider {
-    /// What is known of the module at this module index.
+    /// The records of the module at this module index.
     ghost info: { Self → ℕ → Module → Result (Option ModuleInfo) StreamError };
 
-    /// The records of the module at a module index in the list of modules, or `None` where it has none.
+    /// The records of the module at a module index in the list of modules, or `None` if it has none.
     fn get_module_info(
         &self,
         module_index: usize,

@@ -1,4 +1,4 @@
-//! The records of one module, with what it imports from other modules and exports to them.
+//! The records of one module, with its imports from other modules and exports to them.
 
 ghost use Rattle.std.specs.Prelude.{◌≡◌};
 ghost use Rattle.pdb_records.specs.References.{imported, exported};
@@ -11,17 +11,17 @@ use crate::strings::StringRef;
 use crate::symbols::Symbol;
 use std::marker::Model;
 
-// How many bits of an import's index are a position among a module's imports.
+// The number of low bits of an import's index: a position among the imports from one module.
 const LOCAL_BITS: u32 = 20;
 
-// How many bits above those are a position among the modules that are imported from.
+// The number of bits above these: a position among the modules from which this one imports.
 const MODULE_BITS: u32 = 11;
 
 /// The records of one module.
 pub struct ModuleInfo {
     pub symbols: Reading<Symbol>,
     pub line_program: Result<LineProgram, StreamError>,
-    /// The functions whose bodies stand in the module's code.
+    /// The functions that are inlined in the module's code.
     pub inlinees: Reading<Inlinee>,
     pub imports: Result<CrossModuleImports, StreamError>,
     pub exports: Result<CrossModuleExports, StreamError>,
@@ -39,13 +39,13 @@ impl Drop for ModuleInfo {
     }
 }
 
-/// A function whose body stands in a module's code.
+/// A function that is inlined in a module's code.
 #[derive(Clone, Copy)]
 pub struct Inlinee {
     pub index: IdIndex,
 }
 
-/// What a module takes from others.
+/// The imports of a module from others.
 pub struct CrossModuleImports {
     pub modules: Vec<ImportedModule>,
 }
@@ -65,11 +65,11 @@ impl Model for CrossModuleImports {
     ghost view = { λ i. i.modules.items };
 }
 
-/// What a module takes from one other.
+/// The imports of a module from one other module.
 pub struct ImportedModule {
-    /// Where the other module's name stands in the string table.
+    /// The reference of the other module's name in the string table.
     pub module: StringRef,
-    /// The numbers that the other module exports them under.
+    /// The numbers for which the other module exports them.
     pub locals: Vec<u32>,
 }
 
@@ -90,7 +90,7 @@ impl Model for ImportedModule {
     ghost view = { λ i. record { module_name = i.«module»; locals = i.locals.items } };
 }
 
-/// What a module offers to others: a number of its own, and the index of the type or id.
+/// The exports of a module to others: pairs of a number and the index of a type or id.
 pub struct CrossModuleExports {
     pub exports: Vec<(u32, u32)>,
 }
@@ -110,10 +110,10 @@ impl Model for CrossModuleExports {
 }
 
 impl CrossModuleImports {
-    /// The name of the module that this import comes from, and the number that it is exported under.
+    /// The name of the module from which an index is imported, and the number for which that module exports it.
     ///
-    /// Bits 20 to 30 of the index are a position in `modules`, and bits 0 to 19 one in its `locals`.
-    /// Where either is missing the answer is [`Error::CrossModuleRefNotFound`] of the whole index.
+    /// Bits 20 to 30 of the index are a position in `modules`, and bits 0 to 19 one in its `locals`. If either doesn't
+    /// exist, the result is [`Error::CrossModuleRefNotFound`] with the whole index.
     pub fn resolve_import(&self, index: u32) -> Result<(StringRef, u32), Error>
         ensures { result ≡ imported self.now index }
     {

@@ -1,6 +1,6 @@
-//! Laws of how the order, the equality and the hash of index types agree; the functions do nothing.
+//! Laws: the order, the equality and the hash of index types agree. The functions do nothing.
 //!
-//! Each function's contract is a law, for all values, and the check proves it.
+//! Each function's contract is a law, which the checker proves for all values.
 
 ghost use Rattle.pdb_records.specs.OrderLaws.{OrderAgrees, HashAgrees};
 
@@ -11,7 +11,7 @@ use crate::symbols::SymbolIndex;
 use crate::types::TypeIndex;
 use std::hash::Hash;
 
-/// Two indices are equal exactly where neither stands before the other.
+/// Two indices are equal exactly if neither is ordered before the other.
 pub fn order_of_indices_agrees_with_equality()
     ensures types { OrderAgrees ⟦<TypeIndex as Ord>⟧.cmp ⟦<TypeIndex as PartialEq>⟧.eq }
     ensures ids { OrderAgrees ⟦<IdIndex as Ord>⟧.cmp ⟦<IdIndex as PartialEq>⟧.eq }

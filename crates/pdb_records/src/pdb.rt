@@ -1,4 +1,4 @@
-//! All records of a program, each stream read or failed on its own.
+//! `PDB`: all records of a program. Each stream is either read or has its own error.
 
 use crate::addresses::{AddressMap, ImageSectionHeader};
 use crate::debug_information::DebugInformation;
@@ -10,9 +10,9 @@ use crate::symbols::SymbolTable;
 use crate::types::TypeInformation;
 use std::marker::Model;
 
-/// All records of a program, each stream read or failed on its own.
+/// All records of a program. Each stream is either read or has its own error.
 pub struct PDB {
-    /// The headers of the sections, or `None` where the records hold none.
+    /// The section headers, or `None` if the records have none.
     pub sections: Result<Option<Vec<ImageSectionHeader>>, StreamError>,
     pub address_map: Result<AddressMap, StreamError>,
     pub global_symbols: Result<SymbolTable, StreamError>,

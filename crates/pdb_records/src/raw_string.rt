@@ -1,4 +1,4 @@
-//! Names as they stand in the records, as bytes, and how they become text.
+//! `RawString`: a name in the records, as bytes, and its conversion to text.
 
 ghost use Rattle.std.specs.Prelude.{◌≡◌, true, IfOk, IsOk};
 ghost use Rattle.std.specs.Cow.{cow_str_bytes};
@@ -10,7 +10,7 @@ use std::alloc::{AllocError, Global};
 use std::borrow::CowStr;
 use std::marker::Model;
 
-/// A name as it stands in the records: bytes that are UTF-8 by convention alone.
+/// A name in the records: bytes that are UTF-8 only by convention.
 #[derive(Clone)]
 pub struct RawString(pub Vec<u8>);
 
@@ -31,8 +31,7 @@ impl Model for RawString {
 impl RawString {
     /// The name as text. Each ill-formed sequence of bytes in it becomes one U+FFFD.
     ///
-    /// A name in UTF-8 is borrowed and takes no memory. Another one is copied; answers `AllocError` where memory runs
-    /// out.
+    /// A name in UTF-8 is borrowed, without an allocation. Any other one is copied; `AllocError` if memory runs out.
     #[tactic(auto, using(crate::proofs::NameLemmas::by_utf8))]
     pub fn to_string_lossy(&self, alloc: Global) -> Result<CowStr<'_>, AllocError>
         ensures answer { IfOk result (λ text. cow_str_bytes text ≡ lossy self.now) }

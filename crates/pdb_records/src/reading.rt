@@ -1,13 +1,13 @@
-//! What could be read of a list: its entries, and the fault where the reading stopped early.
+//! `Reading`: the entries of a list that could be read, and the fault at which it ends early, if any.
 
 use crate::error::StreamError;
 use std::marker::Model;
 
-/// What could be read of a list: its entries in order and, where the reading stopped early, why.
+/// The entries of a list that could be read, in order, and why the list ends early, if it does.
 pub struct Reading<T> {
     /// The entries that were read.
     pub items: Vec<T>,
-    /// Why nothing follows them, or `None` where the list ended.
+    /// Why the list ends early; `None` if it is complete.
     pub fault: Option<StreamError>,
 }
 

@@ -1,4 +1,4 @@
-//! The string table: texts that the records share, as names of files and modules, by their references.
+//! The string table: names of files and modules, by their references.
 
 ghost use Rattle.std.specs.Prelude.{◌≡◌};
 ghost use Rattle.std.specs.Option.{option_copied};
@@ -7,11 +7,11 @@ ghost use Rattle.pdb_records.specs.Strings.{string_at};
 use crate::raw_string::RawString;
 use std::marker::Model;
 
-/// The key of a text in the string table.
+/// The reference of a string in the string table.
 #[derive(Clone, Copy, PartialEq, Eq, PartialOrd, Ord, Hash)]
 pub struct StringRef(pub u32);
 
-/// The texts that the records share, as names of files and modules.
+/// The strings to which the records refer, such as names of files and modules.
 pub struct StringTable {
     pub strings: Vec<(StringRef, RawString)>,
 }
@@ -32,7 +32,7 @@ impl Model for StringTable {
 }
 
 impl StringTable {
-    /// The text of the first entry with this key.
+    /// The string of the first entry with this reference.
     pub fn get(&self, reference: StringRef) -> Option<&RawString>
         ensures { option_copied result ≡ string_at reference self.now }
     {

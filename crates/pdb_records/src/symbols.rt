@@ -11,7 +11,7 @@ use crate::types::TypeIndex;
 #[derive(Clone, Copy, PartialEq, Eq, PartialOrd, Ord, Hash)]
 pub struct SymbolIndex(pub usize);
 
-/// The symbols of the whole program.
+/// The global symbols of a program.
 pub struct SymbolTable {
     pub symbols: Reading<Symbol>,
 }
@@ -22,11 +22,11 @@ impl Drop for SymbolTable {
     }
 }
 
-/// One symbol of a list. The kind decides whether it counts, and the content decides how.
+/// A symbol. Its kind decides whether it counts, and its content decides how.
 pub struct Symbol {
-    /// The number of its kind, as [`S_GPROC32`](crate::S_GPROC32).
+    /// The number of its kind, such as [`S_GPROC32`](crate::S_GPROC32).
     pub raw_kind: u16,
-    /// What it holds, or `None` where that could not be read.
+    /// Its content, or `None` if that can't be read.
     pub content: Option<SymbolData>,
 }
 
@@ -39,7 +39,7 @@ impl Drop for Symbol {
     }
 }
 
-/// What a symbol holds.
+/// The content of a symbol.
 pub enum SymbolData {
     Public(PublicSymbol),
     Procedure(ProcedureSymbol),
@@ -63,11 +63,11 @@ impl Drop for SymbolData {
     }
 }
 
-/// A name that is visible outside its module.
+/// A public symbol: a name that is visible outside its module.
 pub struct PublicSymbol {
-    /// Where what it names starts.
+    /// The start of the function or variable that it names.
     pub offset: PdbInternalSectionOffset,
-    /// The name, mostly with its parameters encoded in it.
+    /// The name, usually decorated with the types of its parameters.
     pub name: RawString,
 }
 
@@ -79,7 +79,7 @@ impl Drop for PublicSymbol {
 
 /// A procedure.
 pub struct ProcedureSymbol {
-    /// Where it starts.
+    /// The start of its code.
     pub offset: PdbInternalSectionOffset,
     /// The size of its code in bytes.
     pub len: u32,
@@ -87,7 +87,7 @@ pub struct ProcedureSymbol {
     pub name: RawString,
     /// The position of the symbol that closes it.
     pub end: SymbolIndex,
-    /// Its type, or 0 where none is known.
+    /// Its type, or 0 if none is known.
     pub type_index: TypeIndex,
 }
 
@@ -103,13 +103,13 @@ impl Drop for ProcedureSymbol {
     }
 }
 
-/// Code of a procedure that stands apart from its body, as for an error that is seldom met.
+/// Separated code: code of a procedure that is apart from its body, such as rarely run error handling.
 pub struct SeparatedCodeSymbol {
-    /// Where the code starts.
+    /// The start of the code.
     pub offset: PdbInternalSectionOffset,
     /// The size of the code in bytes.
     pub len: u32,
-    /// Where the procedure that it belongs to starts.
+    /// The start of the procedure to which it belongs.
     pub parent_offset: PdbInternalSectionOffset,
     /// The position of the symbol that closes it.
     pub end: SymbolIndex,
@@ -126,9 +126,9 @@ impl Drop for SeparatedCodeSymbol {
     }
 }
 
-/// A few instructions that lead to a procedure.
+/// A thunk: a few instructions that jump to a procedure.
 pub struct ThunkSymbol {
-    /// Where it starts.
+    /// The start of its code.
     pub offset: PdbInternalSectionOffset,
     /// The size of the code in bytes.
     pub len: u16,
@@ -148,9 +148,9 @@ impl Drop for ThunkSymbol {
     }
 }
 
-/// A place in a procedure where a call was replaced by the callee's body.
+/// An inline site: a place in a procedure where a call was replaced by the callee's body.
 pub struct InlineSiteSymbol {
-    /// What was called.
+    /// The function that was inlined.
     pub inlinee: IdIndex,
     /// The position of the symbol that closes it.
     pub end: SymbolIndex,
@@ -168,12 +168,12 @@ impl Drop for InlineSiteSymbol {
     }
 }
 
-/// Bytes of an inlined body's code that come from one line.
+/// A row of an inline site: bytes of the inlined body's code that come from one line.
 #[derive(Clone, Copy)]
 pub struct InlineRow {
-    /// Bytes from the start of the procedure's section.
+    /// The offset in bytes from the start of the procedure's section.
     pub offset: u32,
-    /// The size of the code in bytes, where it is known.
+    /// The size of the code in bytes, if it is known.
     pub length: Option<u32>,
     pub file_index: FileIndex,
     pub line_start: u32,

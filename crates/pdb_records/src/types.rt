@@ -5,14 +5,14 @@ use crate::raw_string::RawString;
 use crate::reading::Reading;
 use std::marker::Model;
 
-/// The number of a type. One with bit 31 set names an import of the module that asks.
+/// The index of a type. If bit 31 is set, it is a cross-module index: an import of the module that uses it.
 #[derive(Clone, Copy, PartialEq, Eq, PartialOrd, Ord, Hash)]
 pub struct TypeIndex(pub u32);
 
 /// An entry of a list of types or ids.
 pub struct Item<I, D> {
     pub index: I,
-    /// What the entry says, or why it could not be read.
+    /// The content of the entry, or why it can't be read.
     pub content: Result<D, Error>,
 }
 
@@ -25,7 +25,7 @@ impl<I: Drop, D: Drop> Drop for Item<I, D> {
     }
 }
 
-/// A list of types or ids. Of several entries with one index, the first counts.
+/// A list of types or ids. If several entries have the same index, the first one counts.
 pub struct ItemInformation<I, D> {
     pub items: Reading<Item<I, D>>,
 }
@@ -39,7 +39,7 @@ impl<I: Drop, D: Drop> Drop for ItemInformation<I, D> {
 /// The types of a program.
 pub type TypeInformation = ItemInformation<TypeIndex, TypeData>;
 
-/// What an entry of the types says.
+/// The content of a type.
 pub enum TypeData {
     Primitive(PrimitiveType),
     Class(ClassType),
@@ -52,7 +52,7 @@ pub enum TypeData {
     Enumerate(EnumerateType),
     Modifier(ModifierType),
     ArgumentList(ArgumentList),
-    /// A kind that is read and not printed.
+    /// A known kind that isn't printed.
     Other(UnhandledType),
 }
 
@@ -75,7 +75,7 @@ impl Drop for TypeData {
     }
 }
 
-/// A type that the compiler brings, or a pointer to one.
+/// A primitive type, or a pointer to one.
 #[derive(Clone, Copy)]
 pub struct PrimitiveType {
     pub kind: PrimitiveKind,
@@ -83,7 +83,7 @@ pub struct PrimitiveType {
     pub indirection: bool,
 }
 
-/// The types that the compiler brings.
+/// The primitive types.
 #[derive(Clone, Copy, PartialEq, Eq)]
 pub enum PrimitiveKind {
     NoType,
@@ -131,7 +131,7 @@ pub enum PrimitiveKind {
     HRESULT,
 }
 
-/// The word that a class was declared with.
+/// Whether a class was declared as a class, an interface or a struct.
 #[derive(Clone, Copy, PartialEq, Eq)]
 pub enum ClassKind {
     Class,
@@ -143,11 +143,11 @@ pub enum ClassKind {
 pub struct ClassType {
     pub class_kind: ClassKind,
     pub name: RawString,
-    /// The name under which definition and forward references find each other, where there is one.
+    /// The unique name, if there is one, by which forward references are matched to their definition.
     pub unique_name: Option<RawString>,
     /// Its size in bytes.
     pub size: u64,
-    /// Whether only its name is known here.
+    /// Whether it is only a forward reference, without members.
     pub forward_reference: bool,
 }
 
@@ -163,7 +163,7 @@ impl Drop for ClassType {
     }
 }
 
-/// The type of a function that belongs to a class.
+/// The type of a member function of a class.
 #[derive(Clone, Copy)]
 pub struct MemberFunctionType {
     pub return_type: TypeIndex,
@@ -174,7 +174,7 @@ pub struct MemberFunctionType {
     pub argument_list: TypeIndex,
 }
 
-/// The type of a function that belongs to no class.
+/// The type of a function that isn't a member of a class.
 #[derive(Clone, Copy)]
 pub struct ProcedureType {
     pub return_type: Option<TypeIndex>,
@@ -182,7 +182,7 @@ pub struct ProcedureType {
     pub argument_list: TypeIndex,
 }
 
-/// How a pointer points.
+/// Whether a pointer is an ordinary one, a reference, or a pointer to a member.
 #[derive(Clone, Copy, PartialEq, Eq)]
 pub enum PointerMode {
     Pointer,
@@ -231,11 +231,11 @@ impl Model for ArrayType {
 /// A union.
 pub struct UnionType {
     pub name: RawString,
-    /// The name under which definition and forward references find each other, where there is one.
+    /// The unique name, if there is one, by which forward references are matched to their definition.
     pub unique_name: Option<RawString>,
     /// Its size in bytes.
     pub size: u64,
-    /// Whether only its name is known here.
+    /// Whether it is only a forward reference, without members.
     pub forward_reference: bool,
 }
 
@@ -277,7 +277,7 @@ impl Drop for EnumerateType {
     }
 }
 
-/// A number of the width and sign that it was declared with.
+/// A number with its declared width and sign.
 #[derive(Clone, Copy)]
 pub enum Variant {
     U8(u8),
@@ -290,7 +290,7 @@ pub enum Variant {
     I64(i64),
 }
 
-/// A type with `const` before it, or without.
+/// A modifier of a type, such as `const`.
 #[derive(Clone, Copy)]
 pub struct ModifierType {
     pub underlying_type: TypeIndex,
@@ -317,9 +317,9 @@ impl Model for ArgumentList {
     ghost view = { λ l. l.arguments.items };
 }
 
-/// A type of a kind that is read and not printed.
+/// A type of a known kind that isn't printed.
 pub struct UnhandledType {
-    /// What the kind is called.
+    /// The name of the kind.
     pub kind_name: String,
 }
 

@@ -1,4 +1,4 @@
-//! Reads the module files that a records file names, for programs that are handed the path of a records file.
+//! Reads the module files that a records file names, for programs that get the path of a records file.
 #![tactic(auto)]
 
 mod module_files;

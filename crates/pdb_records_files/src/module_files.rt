@@ -1,4 +1,4 @@
-//! The bytes of the module files that a records file names, and why they can't be read.
+//! Reads the module files that a records file names, or says why they can't be read.
 
 ghost use Rattle.std.specs.Prelude.{◌≡◌, IfErr};
 ghost use Rattle.std.specs.IoError.{error_kind};
@@ -14,16 +14,16 @@ use std::{fs, io};
 /// Why the module files of a records file can't be read.
 #[derive(Debug, Drop)]
 pub enum ModuleFileError {
-    /// There was no memory.
+    /// Memory ran out.
     OutOfMemory,
     /// The module file at this path can't be read.
     CannotRead(String),
-    /// The records file doesn't say which module files it has.
+    /// The names of the module files can't be read from the records file.
     Records(RecordFault),
 }
 
-/// The bytes of the module files that a records file names, in order. Each is a regular file: a folder, a device or a
-/// pipe is refused, since what is in a file must not have its reader wait, or read without an end.
+/// Reads the module files that a records file names, in order. Each must be a regular file. A folder, a device or a
+/// pipe is refused: the content of a file must not make the reader wait, or read without an end.
 pub fn read_module_files<R: Files + AllocGlobal>(
     rt: &R,
     records_path: &str,
@@ -45,7 +45,7 @@ pub fn read_module_files<R: Files + AllocGlobal>(
     Ok(files)
 }
 
-// The bytes of the module file of this name.
+// Reads the module file with this name.
 fn read_module_file<R: Files + AllocGlobal>(
     rt: &R,
     records_path: &str,
@@ -63,7 +63,7 @@ fn read_module_file<R: Files + AllocGlobal>(
     }
 }
 
-// The bytes of a file, if it is a regular one.
+// Reads a file, if it is a regular one.
 fn read_regular_file<R: Files + AllocGlobal>(rt: &R, path: &str) -> io::Result<Vec<u8>> {
     if fs::metadata(rt, path)?.is_file() {
         fs::read(rt, path)
@@ -72,7 +72,7 @@ fn read_regular_file<R: Files + AllocGlobal>(rt: &R, path: &str) -> io::Result<V
     }
 }
 
-/// Whether the system had no memory.
+/// Whether the operating system ran out of memory.
 pub fn ran_out_of_memory(error: &io::Error) -> bool
     ensures { result ≡ is_out_of_memory (error_kind error.now) }
 {

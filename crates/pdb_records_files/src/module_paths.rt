@@ -1,4 +1,4 @@
-//! The paths of module files: a name leads on from the folder of the records file.
+//! The paths of module files, which are relative to the folder of the records file.
 
 ghost use Rattle.std.specs.Prelude.{◌≡◌, IfOk, string_bytes};
 ghost use Rattle.pdb_records_files.specs.ModulePaths.{folder_of, module_path};
@@ -15,8 +15,8 @@ fn folder(alloc: Global, path: &str) -> Result<String, AllocError>
     }
 }
 
-/// The path of the module file that a records file names: the name itself where it begins with a slash, and else that
-/// of a file in the folder of the records file. Answers `AllocError` where memory runs out.
+/// The path of a module file that a records file names: the name itself if it begins with a slash, otherwise a file in
+/// the folder of the records file. `AllocError` if memory runs out.
 pub fn module_path(alloc: Global, records_path: &str, name: &str) -> Result<String, AllocError>
     ensures { IfOk result (λ path. string_bytes path ≡ module_path records_path.now name.now) }
 {

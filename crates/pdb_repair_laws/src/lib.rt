@@ -1,6 +1,6 @@
-//! Laws of what is left of broken records, which follow from the definitions of the crates below.
+//! Laws on repaired records, which follow from the definitions of the crates below.
 //!
-//! Each function here does nothing. Its contract is a law, for all records, and the check proves it.
+//! Each function here does nothing. Its contract states a law, which the checker proves for all records.
 #![tactic(auto)]
 
 pub mod repaired_frames;

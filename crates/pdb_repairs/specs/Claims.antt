@@ -13,7 +13,7 @@ use Rattle.pdb_repairs.specs.declared.claims.Claim.{Claim}
 use Rattle.pdb_repairs.specs.declared.repairs.Repair.{Repair}
 use Rattle.pdb_repairs.specs.declared.repairs.Repair.TheVariants.{ModuleContributions}
 
--- whether a section holds code, where there is one
+-- whether a section holds code, if there is one
 abbrev pub holds_code : Option ImageSectionHeader → Bool
 holds_code None = false
 holds_code (Some section) = section.execute
@@ -27,7 +27,7 @@ counts sections contribution =
 abbrev pub byte_number : ℕ → ℕ → ℕ
 byte_number section offset = section * 2 ^ 32 + offset
 
--- what a contribution claims: the bytes from its start to its end, where the end is below 2 ^ 32
+-- the claim of a contribution: the bytes from its start to its end, if the end is below 2 ^ 32
 abbrev pub claim_of : SectionContribution → Option Claim
 claim_of contribution =
     let end = contribution.offset.offset + contribution.size in
@@ -47,46 +47,46 @@ claims_of sections contributions = filter_map claim_of (filter (counts sections)
 abbrev pub has_byte : ℕ → Claim → Bool
 has_byte byte claim = is_within claim.start claim.end byte
 
--- how many bytes a claim has
+-- the number of bytes in a claim
 abbrev pub size_of : Claim → ℕ
 size_of claim = claim.end - claim.start
 
--- whether a claim is greater than the greatest one ahead of it, if there is one
+-- whether a claim is greater than the greatest one before it, if there is one
 abbrev pub is_greater : Option Claim → Claim → Bool
 is_greater None claim = true
 is_greater (Some greatest) claim = nat_lt (size_of greatest) (size_of claim)
 
--- the greatest claim over a byte with one more claim: of equal ones the first stays
+-- the greatest claim to a byte after one more claim; of equally great claims the first stays
 abbrev pub greater_over : ℕ → Option Claim → Claim → Option Claim
 greater_over byte greatest claim = if has_byte byte claim && is_greater greatest claim then Some claim else greatest
 
--- the greatest of the claims over a byte, of equal ones the first
+-- the greatest of the claims to a byte; of equally great ones the first
 abbrev pub greatest_over : List Claim → ℕ → Option Claim
 greatest_over claims byte = fold (greater_over byte) None claims
 
--- the module that a byte counts for: that of the greatest claim over it, of equal ones of the first
+-- the module that owns a byte: that of the greatest claim to it, of equally great ones the first
 abbrev pub owner : List Claim → ℕ → Option ℕ
 owner claims byte = option_map (λ claim. claim.module_index) (greatest_over claims byte)
 
--- whether two are one module, or both none
+-- whether two optional modules are the same
 abbrev pub is_same_module : Option ℕ → Option ℕ → Bool
 is_same_module None None = true
 is_same_module None (Some b) = false
 is_same_module (Some a) None = false
 is_same_module (Some a) (Some b) = a == b
 
--- whether each byte of a claim counts for its module
+-- whether the module of a claim owns each of its bytes
 unfoldable pub owns_all : List Claim → Claim → Bool
 owns_all claims claim =
     list_all (λ byte. is_same_module (owner claims byte) (Some claim.module_index))
     (range_with_len claim.start (size_of claim))
 
--- whether each byte that is claimed counts for its module: one whose end fits no offset has no claim, and fails
+-- whether the module of a claim owns each of its bytes; false for a contribution without a claim, whose end is too high
 abbrev pub owns : List Claim → Option Claim → Bool
 owns claims None = false
 owns claims (Some claim) = owns_all claims claim
 
--- whether a contribution is kept: it doesn't count, or each byte of it counts for its module
+-- whether a contribution is kept: it doesn't count, or its module owns each of its bytes
 abbrev pub is_retained : List ImageSectionHeader → List Claim → SectionContribution → Bool
 is_retained sections claims contribution = not (counts sections contribution) || owns claims (claim_of contribution)
 
@@ -94,18 +94,18 @@ is_retained sections claims contribution = not (counts sections contribution) ||
 abbrev pub retained : List ImageSectionHeader → List SectionContribution → List SectionContribution
 retained sections contributions = filter (is_retained sections (claims_of sections contributions)) contributions
 
--- the modules of the contributions that aren't kept, once for each
+-- the modules of the contributions that aren't kept, one for each contribution
 abbrev pub modules_of_left_out : List ImageSectionHeader → List Claim → List SectionContribution → List ℕ
 modules_of_left_out sections claims contributions =
     map (λ contribution. contribution.«module»)
     (filter (λ contribution. not (is_retained sections claims contribution)) contributions)
 
--- the modules of contributions that aren't kept, ascending, each once
+-- the modules of contributions that aren't kept, sorted and without duplicates
 abbrev pub modules_left_out : List ImageSectionHeader → List SectionContribution → List ℕ
 modules_left_out sections contributions =
     first_of_each_key nat_cmp (λ m. m) (modules_of_left_out sections (claims_of sections contributions) contributions)
 
--- debug information with the contributions that are kept
+-- debug information with only the contributions that are kept
 abbrev pub with_retained : List ImageSectionHeader → DebugInformation → DebugInformation
 with_retained sections debug = record debug {
   section_contributions = record debug.section_contributions {
@@ -113,6 +113,6 @@ with_retained sections debug = record debug {
   };
 }
 
--- what is told of contributions that aren't kept: each module once, ascending
+-- the repairs for contributions that aren't kept: one for each module, in ascending order
 abbrev pub repairs_of_claims : List ImageSectionHeader → DebugInformation → List Repair
 repairs_of_claims sections debug = map ModuleContributions (modules_left_out sections debug.section_contributions.items)

@@ -1,4 +1,4 @@
--- Whether modules claim one byte at all.
+-- Whether any byte is claimed by two modules.
 use Rattle.std.specs.Prelude.{ℕ, ◌&&◌, ◌||◌, ◌==◌, not, Bool, false, nat_lt, List, [], ◌∷◌, length, count_by}
 use Rattle.std.specs.Prelude.{if◌then◌else◌}
 use Rattle.std.specs.Ordering.{nat_cmp}
@@ -13,7 +13,7 @@ use Rattle.pdb_repairs.specs.declared.claims.Claim.{Claim}
 abbrev pub is_earlier : Claim → Claim → Bool
 is_earlier = is_lower nat_cmp (λ claim. claim.start)
 
--- whether a claim begins before the greatest end ahead of it, which is another module's
+-- whether a claim begins before the greatest end of the claims before it, if that end belongs to another module
 abbrev pub overlaps : ℕ → ℕ → List Claim → Bool
 overlaps reach module_index [] = false
 overlaps reach module_index (claim ∷ claims) =
@@ -21,7 +21,7 @@ overlaps reach module_index (claim ∷ claims) =
     || (if nat_lt reach claim.end then overlaps claim.end claim.module_index claims
     else overlaps reach module_index claims)
 
--- whether any contribution may have to be left out: one that counts has no claim, or claims of two modules overlap
+-- whether some contribution may not be kept: one that counts has no claim, or claims of two modules overlap
 abbrev pub may_lose : List ImageSectionHeader → List SectionContribution → List Claim → Bool
 may_lose sections contributions claims =
     nat_lt (length claims) (count_by (counts sections) contributions) || overlaps 0 0 (in_order is_earlier claims)

@@ -1,4 +1,4 @@
-//! The bytes that contributions claim for their modules.
+//! `Claim`: the bytes that a contribution claims for its module.
 
 ghost use Rattle.std.specs.Prelude.{◌≡◌, ◌<◌, IfOk, true};
 ghost use Rattle.pdb_records.specs.Addresses.{numbered_section};
@@ -7,19 +7,19 @@ ghost use Rattle.pdb_repairs.specs.Claims.{claim_of, claims_of, counts};
 use pdb_records::{ImageSectionHeader, SectionContribution};
 use std::alloc::{AllocError, Global};
 
-/// How many offsets a section has.
+/// The number of offsets in a section.
 const OFFSETS: u64 = 1 << 32;
 
-/// The bytes that a contribution claims for its module, as numbers that no other section has.
+/// The bytes that a contribution claims for its module, as numbers that differ between sections.
 #[derive(Clone, Copy)]
 pub struct Claim {
     pub start: u64,
-    /// The number past the last.
+    /// The number after the last byte.
     pub end: u64,
     pub module_index: usize,
 }
 
-// The section of a number, counted from 1.
+// The section with this number, counted from 1.
 fn section_of(sections: &[ImageSectionHeader], number: u16) -> Option<ImageSectionHeader>
     ensures { result ≡ numbered_section number sections.now }
 {
@@ -29,7 +29,7 @@ fn section_of(sections: &[ImageSectionHeader], number: u16) -> Option<ImageSecti
     sections.get(usize::from(number) - 1).copied()
 }
 
-/// Whether a contribution has bytes, in a section that holds code.
+/// Whether a contribution has bytes and is in a section with code.
 pub fn counts(sections: &[ImageSectionHeader], contribution: &SectionContribution) -> bool
     ensures { result ≡ counts sections.now contribution.now }
 {
@@ -39,7 +39,7 @@ pub fn counts(sections: &[ImageSectionHeader], contribution: &SectionContributio
     }
 }
 
-/// What a contribution claims, where its end fits the offsets of a section.
+/// The claim of a contribution; `None` if its end doesn't fit a section's offsets.
 pub fn claim_of(contribution: &SectionContribution) -> Option<Claim>
     ensures { result ≡ claim_of contribution.now }
 {
@@ -52,7 +52,7 @@ pub fn claim_of(contribution: &SectionContribution) -> Option<Claim>
     })
 }
 
-/// The claims of the contributions that count.
+/// The claims of all contributions that have bytes and are in a section with code.
 pub fn claims(
     alloc: Global,
     sections: &[ImageSectionHeader],

@@ -1,4 +1,4 @@
-//! Intervals of bytes that count for one module: of each byte the greatest claim over it counts.
+//! Intervals of bytes that belong to one module. A byte belongs to the module with the greatest claim that covers it.
 
 ghost use Rattle.std.specs.Prelude.{◌≡◌, ℕ, ◌<◌, List, map, not, reverse, IfOk, OnOk, None};
 ghost use Rattle.std.specs.List.Sorted.{IsPermutation, IsSorted};
@@ -15,7 +15,7 @@ use pdb_records::SectionContribution;
 use pdb_tables::{Keyed, Probes, Segment, Segments, neighbours_of};
 use std::alloc::{AllocError, Global};
 
-/// Bytes that count for one module, or for none: up to where the next interval begins.
+/// Bytes that belong to one module, or to none. The interval ends where the next one begins.
 #[derive(Clone, Copy)]
 pub struct Interval {
     pub start: u64,
@@ -32,14 +32,14 @@ impl Keyed for Interval {
     }
 }
 
-// Puts claims in order of their sizes. Of equal ones the first stays first.
+// Sorts claims by size. The sort is stable.
 fn sort_by_size(claims: &mut Vec<Claim>) -> Result<(), AllocError>
     ensures { OnOk result (claims.new.items ≡ in_order is_smaller claims.old.items) }
 {
     claims.sort_by_key(|claim: &Claim| claim.end.saturating_sub(claim.start))
 }
 
-// The claims, the greatest last, and of equal ones the first.
+// The claims sorted by size, the greatest last. Of equal ones the first of the list comes last.
 fn by_size(alloc: Global, claims: &[Claim]) -> Result<Vec<Claim>, AllocError>
     ensures { IfOk result (λ v. v.items ≡ in_order is_smaller (reverse claims.now)) }
 {
@@ -66,7 +66,7 @@ fn segments_of(alloc: Global, claims: &[Claim]) -> Result<Vec<Segment<usize>>, A
     claims.iter().map(segment_of).collect(alloc)
 }
 
-// The module that each byte counts for.
+// A table of the module to which each byte belongs.
 fn owners(alloc: Global, claims: &[Claim]) -> Result<Segments<usize>, AllocError>
     ensures { IfOk result (λ table. (byte : ℕ) → value_at table byte ≡ owner claims.now byte) }
 {
@@ -75,7 +75,7 @@ fn owners(alloc: Global, claims: &[Claim]) -> Result<Segments<usize>, AllocError
     Segments::from_overlapping(alloc, &segments)
 }
 
-// Where claims begin and end, ascending.
+// The starts and ends of all claims, in ascending order.
 fn edges(alloc: Global, claims: &[Claim]) -> Result<Vec<u64>, AllocError>
     ensures ascend { IfOk result (λ v. IsSorted nat_cmp v.items) }
     ensures same { IfOk result (λ v. IsPermutation (edges_of claims.now) v.items) }
@@ -89,7 +89,7 @@ fn edges(alloc: Global, claims: &[Claim]) -> Result<Vec<u64>, AllocError>
     Ok(edges)
 }
 
-// Whether two are one module, or both none.
+// Whether both are the same module, or both are none.
 fn is_same_module(a: Option<usize>, b: Option<usize>) -> bool
     ensures { result ≡ is_same_module a b }
 {
@@ -100,7 +100,7 @@ fn is_same_module(a: Option<usize>, b: Option<usize>) -> bool
     }
 }
 
-// Whether an interval is of this module.
+// Whether an interval belongs to this module.
 fn is_of(interval: Option<Interval>, module_index: Option<usize>) -> bool
     ensures { result ≡ is_of interval module_index }
 {
@@ -110,7 +110,7 @@ fn is_of(interval: Option<Interval>, module_index: Option<usize>) -> bool
     }
 }
 
-// The intervals that begin at these bytes: at each that counts for another module than the one ahead.
+// The intervals that begin at these bytes. One begins at each byte whose module differs from that of the byte before.
 fn intervals_at(
     alloc: Global,
     owners: &Segments<usize>,
@@ -134,7 +134,8 @@ fn intervals_at(
     Ok(intervals)
 }
 
-/// The intervals of bytes that count for one module, ascending. Where one begins a claim begins or ends.
+/// The intervals of bytes that belong to one module, in ascending order. An interval begins only where a claim begins
+/// or ends.
 pub fn intervals(alloc: Global, claims: &[Claim]) -> Result<Vec<Interval>, AllocError>
     ensures { IfOk result (λ v. AreOwners claims.now v.items) }
 {
@@ -143,7 +144,7 @@ pub fn intervals(alloc: Global, claims: &[Claim]) -> Result<Vec<Interval>, Alloc
     intervals_at(alloc, &owners, &edges)
 }
 
-// Whether an interval ends before a byte, where the next one begins.
+// Whether an interval ends before a byte. `next` is the interval after it.
 fn ends_before(next: Option<Interval>, byte: u64) -> bool
     ensures { result ≡ ends_before next byte }
 {
@@ -153,7 +154,7 @@ fn ends_before(next: Option<Interval>, byte: u64) -> bool
     }
 }
 
-// Whether each byte of a claim, of which it has at least one, counts for its module.
+// Whether each byte of a claim belongs to its module. The claim has at least one byte.
 fn owns_all(claim: &Claim, intervals: &[Interval]) -> bool
     requires bytes { claim.now.start < claim.now.end }
     requires ascend { KeysAscend nat_cmp (λ i. i.start) intervals.now }
@@ -163,8 +164,8 @@ fn owns_all(claim: &Claim, intervals: &[Interval]) -> bool
     is_of(here.up_to, Some(claim.module_index)) && !ends_before(here.above, claim.end)
 }
 
-/// Whether each byte of a contribution, of which it has at least one, counts for its module. Its end has to fit the
-/// offsets of a section.
+/// Whether each byte of a contribution belongs to its module. The contribution has at least one byte. If its end
+/// doesn't fit a section's offsets, the answer is no.
 pub fn owns(contribution: &SectionContribution, intervals: &[Interval]) -> bool
     requires bytes { 0 < contribution.now.size }
     requires ascend { KeysAscend nat_cmp (λ i. i.start) intervals.now }

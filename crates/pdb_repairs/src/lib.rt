@@ -1,12 +1,12 @@
-//! Takes out of a program's records what is broken, so that all else is answered.
+//! Removes broken parts from a program's records, so that everything else can be answered.
 //!
-//! The library over records answers a broken part with that part's error, and where a part of the whole program is
-//! broken it has no answer at all. Who only wants to know as much as can be known calls [`repair_records`] before: it
-//! answers what was broken, part by part, so that somebody can be told, and leaves records of which all can be read.
-//! Rows of inline sites that end early are told too, and stay.
+//! Without repairs, lookups return an error if they need a broken part. If a part of the whole program is broken, no
+//! lookup is possible at all. A caller that wants as many answers as possible calls [`repair_records`] first. It
+//! removes the broken parts, and returns a list of them. If rows of inline sites end early, this is listed too, but the
+//! rows before stay.
 //!
-//! What records become and what is told of them are definitions, `repaired` and `repairs_of` in specs/Repaired.antt.
-//! Each call is proved to do as they say, unless memory runs out.
+//! The repaired records and the list are defined by `repaired` and `repairs_of` in specs/Repaired.antt. Each call is
+//! proved to follow these definitions, unless memory runs out.
 #![tactic(auto)]
 
 mod claims;

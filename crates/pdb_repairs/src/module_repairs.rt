@@ -1,4 +1,4 @@
-//! What is broken among the records of one module.
+//! Removes the broken parts of one module's records.
 
 ghost use Rattle.std.specs.Prelude.{◌≡◌, ◌++◌, OnOk, option_to_list};
 ghost use Rattle.pdb_repairs.specs.RowFaults.{row_faults, inline_rows};
@@ -10,7 +10,7 @@ use crate::row_faults::faults_of_rows;
 use pdb_records::{LineProgram, ModuleInfo, StreamError, Symbol, SymbolLines};
 use std::alloc::{AllocError, Global};
 
-/// Takes out of the records of a module what is broken, and tells of rows of inline sites that end early.
+/// Removes the broken parts of a module's records. Also reports rows of inline sites that end early.
 pub fn repair_module(
     alloc: Global,
     module_index: usize,
@@ -41,7 +41,7 @@ pub fn repair_module(
     tell_inline_rows(module_index, &info.symbols.items, repairs)
 }
 
-// Tells of the inline sites whose rows end early. Nothing is taken out: rows are answered up to the fault.
+// Reports the inline sites whose rows end early. Nothing is removed: the rows before the fault are used.
 fn tell_inline_rows(
     module_index: usize,
     symbols: &[Symbol],
@@ -61,7 +61,7 @@ fn tell_inline_rows(
     Ok(())
 }
 
-// Puts no lines in the place of those that can't be read. Answers why the first of them can't be.
+// Replaces lines that can't be read by an empty list. Returns the first fault.
 fn repair_lines(
     alloc: Global,
     line_program: &mut Result<LineProgram, StreamError>,
@@ -82,7 +82,7 @@ fn repair_lines(
     }
 }
 
-// Takes the rows out of each entry whose rows can't all be read. Answers why those of the first can't be.
+// Removes all rows of each entry whose rows end early. Returns the first fault.
 fn repair_entries(program: &mut LineProgram) -> Option<StreamError>
     ensures state { program.new ≡ repaired_program program.old }
     ensures answer { result ≡ first_fault program.old.entries }
@@ -94,7 +94,8 @@ fn repair_entries(program: &mut LineProgram) -> Option<StreamError>
     first
 }
 
-// Takes the rows out of an entry whose rows can't all be read: a row reaches to the next one, which is lost.
+// Removes all rows of an entry whose rows end early: each row extends to the next one, and the next one of the last is
+// lost.
 fn repair_entry(entry: &mut SymbolLines) -> Option<StreamError>
     ensures state { entry.new ≡ repaired_entry entry.old }
     ensures answer { result ≡ entry.old.lines.fault }

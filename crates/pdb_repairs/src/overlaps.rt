@@ -1,4 +1,4 @@
-//! Whether modules claim one byte at all.
+//! Checks whether several modules claim the same byte.
 
 ghost use Rattle.std.specs.Prelude.{◌≡◌, count_by, IfOk, OnOk};
 ghost use Rattle.pdb_tables.specs.InOrder.{in_order};
@@ -9,7 +9,8 @@ use crate::claims::{Claim, counts};
 use pdb_records::{ImageSectionHeader, SectionContribution};
 use std::alloc::{AllocError, Global};
 
-/// Whether any contribution may have to be left out. In most programs none has, which costs no table of all bytes.
+/// Whether any contribution may have to be removed. For most programs the answer is no, and then no table of all bytes
+/// is needed.
 pub fn may_lose(
     alloc: Global,
     sections: &[ImageSectionHeader],
@@ -22,7 +23,7 @@ pub fn may_lose(
     Ok(count(sections, contributions) > claims.len() || has_overlap(&sorted))
 }
 
-// How many contributions count.
+// How many contributions have bytes and are in a section with code.
 fn count(sections: &[ImageSectionHeader], contributions: &[SectionContribution]) -> usize
     ensures { result ≡ count_by (counts sections.now) contributions.now }
 {
@@ -32,7 +33,7 @@ fn count(sections: &[ImageSectionHeader], contributions: &[SectionContribution])
         .count()
 }
 
-// The claims in order of their starts.
+// The claims sorted by start.
 fn by_start(alloc: Global, claims: &[Claim]) -> Result<Vec<Claim>, AllocError>
     ensures { IfOk result (λ v. v.items ≡ in_order is_earlier claims.now) }
 {
@@ -41,14 +42,14 @@ fn by_start(alloc: Global, claims: &[Claim]) -> Result<Vec<Claim>, AllocError>
     Ok(sorted)
 }
 
-// Puts claims in order of their starts.
+// Sorts claims by start.
 fn sort_by_start(claims: &mut Vec<Claim>) -> Result<(), AllocError>
     ensures { OnOk result (claims.new.items ≡ in_order is_earlier claims.old.items) }
 {
     claims.sort_by_key(|claim: &Claim| claim.start)
 }
 
-// Whether a claim begins before one ends that stands in front of it and is another module's.
+// Whether a claim begins before the end of an earlier claim of another module.
 fn has_overlap(claims: &[Claim]) -> bool
     ensures { result ≡ overlaps 0 0 claims.now }
 {

@@ -1,4 +1,4 @@
-//! What is taken out of the records of a program, each with its fault.
+//! `Repair`: the broken parts of a program's records, and the calls that remove them.
 
 ghost use Rattle.std.specs.Prelude.{◌≡◌, [], ◌++◌, map, IfOk, OnOk};
 ghost use Rattle.pdb_records.specs.Sections.{listed};
@@ -20,54 +20,54 @@ use std::alloc::{AllocError, Global};
 /// A part of a program's records that was broken.
 #[derive(Debug, Clone, Copy, PartialEq, Eq, Drop)]
 pub enum Repair {
-    /// The public symbols end early. Those before are answered.
+    /// The public symbols end early. Those before the fault are used.
     GlobalSymbols(StreamError),
-    /// The public symbols can't be read. Procedures of modules are answered.
+    /// The public symbols can't be read. Procedures of modules are still found.
     NoGlobalSymbols(StreamError),
-    /// The types can't be read. Functions go by the names of their symbols.
+    /// The types can't be read. Functions are named by their symbols.
     NoTypes(StreamError),
-    /// The ids can't be read. Inlined functions have no name, and are answered with their files and lines.
+    /// The ids can't be read. Inlined functions have no name, but still have files and lines.
     NoIds(StreamError),
-    /// The list of modules ends early. Those before are answered.
+    /// The list of modules ends early. Those before the fault are used.
     Modules(StreamError),
-    /// The list of contributions ends early. Those before are answered.
+    /// The list of contributions ends early. Those before the fault are used.
     Contributions(StreamError),
-    /// Contributions of a module were left out: another module has one that is as great or greater and has a byte of
-    /// theirs, or their end doesn't fit 32 bits.
+    /// Contributions of a module were removed. Either another module has one that is at least as large and shares a
+    /// byte with them, or their end doesn't fit 32 bits.
     ModuleContributions {
         module_index: usize,
     },
-    /// Nothing is known of a module: its records can't be read.
+    /// The records of a module can't be read.
     Module {
         module_index: usize,
         fault: StreamError,
     },
-    /// The symbols of a module end early. The procedures before are answered.
+    /// The symbols of a module end early. The procedures before the fault are used.
     Symbols {
         module_index: usize,
         fault: StreamError,
     },
-    /// The lines of a module, or those of some of its functions, can't be read. The functions are answered without.
+    /// The lines of a module, or of some of its functions, can't be read. The functions are found without lines.
     Lines {
         module_index: usize,
         fault: StreamError,
     },
-    /// The list of a module's inlined functions ends early. Those before are answered.
+    /// The list of a module's inlinees ends early. Those before the fault are used.
     Inlinees {
         module_index: usize,
         fault: StreamError,
     },
-    /// The rows of some inline sites of a module end early. Those before are answered.
+    /// The rows of some inline sites of a module end early. Those before the fault are used.
     InlineRows {
         module_index: usize,
-        /// Why those of the first such site do.
+        /// Why the rows of the first such site end early.
         fault: StreamError,
-        /// How many such sites there are.
+        /// The number of such sites.
         sites: usize,
     },
 }
 
-/// Takes out of the records what is broken, and answers what that was, at most once for each module and kind.
+/// Removes the broken parts of the records, and returns them: each kind at most once for each module.
 pub fn repair_records(alloc: Global, records: &mut PDB) -> Result<Vec<Repair>, AllocError>
     ensures state { OnOk result (records.new ≡ repaired records.old) }
     ensures answer { IfOk result (λ v. v.items ≡ repairs_of records.old) }
@@ -90,8 +90,8 @@ pub fn repair_records(alloc: Global, records: &mut PDB) -> Result<Vec<Repair>, A
     Ok(repairs)
 }
 
-/// Takes out of what was read of a module what is broken, and tells what that was, as [`repair_records`] does: for a module
-/// that is read by itself.
+/// Removes the broken parts of one module's records, and adds them to `repairs`, as [`repair_records`] does for all
+/// modules.
 pub fn repair_module_info(
     alloc: Global,
     module_index: usize,
@@ -130,7 +130,7 @@ fn repair_all(
     Ok(())
 }
 
-// Repairs the public symbols. There are none where they can't be read.
+// Repairs the public symbols. If they can't be read, the list becomes empty.
 fn repair_global_symbols(
     alloc: Global,
     read: &mut Result<SymbolTable, StreamError>,
@@ -151,8 +151,8 @@ fn repair_global_symbols(
     }
 }
 
-// Replaces types, or ids, that can't be read by a list without entries that ends with the reason, and returns the reason.
-// A name that needs one of them is then not known, as if the list ended before it.
+// Replaces types or ids that can't be read by an empty list that ends with the fault, and returns the fault. A name that
+// needs one of them is then unknown, as if the list ended before it.
 fn take_unread<I: Drop, D: Drop>(
     alloc: Global,
     read: &mut Result<ItemInformation<I, D>, StreamError>,
@@ -170,7 +170,7 @@ fn take_unread<I: Drop, D: Drop>(
     Some(fault)
 }
 
-// A list without items, and the reason why it ends early, if it does.
+// An empty list, with the fault at its end if there is one.
 fn no_items<T>(alloc: Global, fault: Option<StreamError>) -> Reading<T>
     ensures { result ≡ record { items = []; fault = fault } }
 {
@@ -180,7 +180,7 @@ fn no_items<T>(alloc: Global, fault: Option<StreamError>) -> Reading<T>
     }
 }
 
-// Tells why the public symbols end early, if they do.
+// Reports why the public symbols end early, if they do.
 fn tell_symbols(fault: Option<StreamError>, repairs: &mut Vec<Repair>) -> Result<(), AllocError>
     ensures { OnOk result (repairs.new.items ≡ repairs.old.items ++ told Repair.GlobalSymbols fault) }
 {
@@ -190,7 +190,7 @@ fn tell_symbols(fault: Option<StreamError>, repairs: &mut Vec<Repair>) -> Result
     Ok(())
 }
 
-// Repairs what was compiled into the program, where it was read.
+// Repairs the debug information, if it was read.
 fn repair_debug_information(
     alloc: Global,
     sections: &Result<Option<Vec<ImageSectionHeader>>, StreamError>,
@@ -221,7 +221,7 @@ fn repair_debug(
     repair_contributions(alloc, sections, debug, repairs)
 }
 
-// Leaves out contributions that claim bytes of another module's, where there are sections.
+// Removes contributions that claim bytes of another module, if there are section headers.
 fn repair_contributions(
     alloc: Global,
     sections: &Result<Option<Vec<ImageSectionHeader>>, StreamError>,
@@ -252,7 +252,7 @@ fn repair_lists(debug: &mut DebugInformation, repairs: &mut Vec<Repair>) -> Resu
     Ok(())
 }
 
-/// Has a reading end after what was read, and answers why it ended there, if it was for a fault.
+/// Removes the fault of a reading and returns it. What was read before the fault stays.
 pub fn take_fault<T>(reading: &mut Reading<T>) -> Option<StreamError>
     ensures answer { result ≡ reading.old.fault }
     ensures state { reading.new ≡ without_fault reading.old }

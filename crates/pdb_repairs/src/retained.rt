@@ -1,4 +1,4 @@
-//! Contributions of which two modules claim one byte: the smaller ones are left out.
+//! Removes contributions whose bytes another module claims with a larger one.
 
 ghost use Rattle.std.specs.Prelude.{◌≡◌, ◌++◌, List, map, not, IfOk, OnOk};
 ghost use Rattle.std.specs.List.{filter};
@@ -15,7 +15,7 @@ use pdb_records::{DebugInformation, ImageSectionHeader, SectionContribution};
 use pdb_tables::{Keyed, first_of_each_key};
 use std::alloc::{AllocError, Global};
 
-/// The module of a contribution that is left out.
+/// The module of a contribution that is removed.
 #[derive(Clone, Copy)]
 struct LeftOut {
     module_index: usize,
@@ -31,15 +31,15 @@ impl Keyed for LeftOut {
     }
 }
 
-/// The contributions that are kept, and the modules of the others.
+/// The contributions that are kept, and the modules of the removed ones.
 struct Division {
     retained: Vec<SectionContribution>,
     left_out: Vec<LeftOut>,
 }
 
-/// Leaves out each contribution that has a byte which counts for another module. Of each byte the greatest claim over
-/// it counts, of equal ones the first. Left out is also what ends past the offsets of a section. So no byte is claimed
-/// by two modules.
+/// Removes each contribution that has a byte of another module. A byte belongs to the module with the greatest claim on
+/// it, and of equal claims to the first. A contribution whose end doesn't fit a section's offsets is removed, too.
+/// Afterwards no byte is claimed by two modules.
 pub fn retain_claims(
     alloc: Global,
     sections: &[ImageSectionHeader],
@@ -104,7 +104,7 @@ fn is_retained(
     owns(contribution, intervals)
 }
 
-// Tells of each module once, ascending.
+// Reports each of these modules once, in ascending order.
 fn push_modules(
     alloc: Global,
     left_out: Vec<LeftOut>,
@@ -117,7 +117,7 @@ fn push_modules(
     tell_each(&first_of_each_key(alloc, left_out)?, repairs)
 }
 
-// Tells of these modules.
+// Reports these modules.
 fn tell_each(left_out: &[LeftOut], repairs: &mut Vec<Repair>) -> Result<(), AllocError>
     ensures { OnOk result (repairs.new.items ≡ repairs.old.items
         ++ map Repair.ModuleContributions (map (λ l. l.module_index) left_out.now)) }

@@ -1,20 +1,20 @@
-//! Inline sites whose rows end early.
+//! Counts inline sites whose rows end early.
 
 ghost use Rattle.std.specs.Prelude.{◌≡◌, length, slice_get};
 ghost use Rattle.pdb_repairs.specs.RowFaults.{row_fault, row_faults};
 
 use pdb_records::{StreamError, Symbol, SymbolData, is_site_kind};
 
-/// Why rows of inline sites end early.
+/// The inline sites whose rows end early.
 #[derive(Clone, Copy)]
 pub struct RowFaults {
-    /// The fault of the first site whose rows end early, where there is one.
+    /// The fault of the first such site, if there is one.
     pub first: Option<StreamError>,
-    /// How many such sites there are.
+    /// The number of such sites.
     pub count: usize,
 }
 
-// Why the rows of a symbol's inline site end early, where they do.
+// The fault in the rows of an inline site, if they end early.
 fn row_fault(symbol: &Symbol) -> Option<StreamError>
     ensures { result ≡ row_fault symbol.now }
 {
@@ -27,7 +27,7 @@ fn row_fault(symbol: &Symbol) -> Option<StreamError>
     }
 }
 
-/// Why rows of inline sites among these symbols end early.
+/// Counts the inline sites among these symbols whose rows end early.
 pub fn faults_of_rows(symbols: &[Symbol]) -> RowFaults
     ensures first { result.first ≡ slice_get (row_faults symbols.now) 0 }
     ensures count { result.count ≡ length (row_faults symbols.now) }

@@ -1,8 +1,8 @@
 //! Shows which functions addresses of a Windows program lie in, over the records of a file.
 //!
-//! `pdb_report RECORDS frames ADDRESS...` prints for each address the functions in whose code it lies, with
-//! files and lines, and `pdb_report RECORDS names ADDRESS...` a line with the function. `pdb_report RECORDS
-//! list` prints a line for each function of the program.
+//! `pdb_report RECORDS frames ADDRESS...` prints for each address its function and inlined calls, with files and lines.
+//! `pdb_report RECORDS names ADDRESS...` prints one line with the function of each address. `pdb_report RECORDS list`
+//! prints one line for each function of the program.
 #![tactic(auto)]
 
 use pdb_addr2line::Error;
@@ -26,7 +26,7 @@ fn main(rt: HostRuntime) -> ExitCode {
     }
 }
 
-// The words of the command line. Words that are no text ask for nothing.
+// The words of the command line. Words that aren't UTF-8 are a usage error.
 fn words<R: Env + AllocGlobal>(rt: &R) -> Result<Vec<String>, CommandError<'static>> {
     let words = match env::args(rt) {
         Ok(words) => words,
@@ -41,7 +41,7 @@ fn words<R: Env + AllocGlobal>(rt: &R) -> Result<Vec<String>, CommandError<'stat
     }
 }
 
-// Prints why the program ended early, and gives its status.
+// Prints why the program ended early, and returns its exit status.
 fn print_stop<R: Eprint>(rt: &R, stop: &CommandError<'_>) -> ExitCode {
     let _ = eprintln!(rt; "{stop}");
     ExitCode::from(stop.status())

@@ -9,14 +9,14 @@ use Rattle.pdb_report_lib.specs.declared.reports.Command.TheVariants as wanted
 use Rattle.pdb_report_lib.specs.PrintedFrames.{frames_text}
 use Rattle.pdb_report_lib.specs.PrintedLines.{names_line, list_text}
 
--- the text of an answer about an address, or the error in its place; no report shows sizes, counts or signatures
+-- the text of an answer about an address, or its error; reports never show sizes, counts or signatures
 abbrev pub answer_text : ℕ → AnswerView → Result (List ℕ) Error
 answer_text address (FunctionView function) = Ok (names_line address function)
 answer_text address (FramesView frames) = and_then frames (λ found. Ok (frames_text address found))
 answer_text address (FunctionsView functions) = Ok (list_text functions)
 answer_text address other = Ok []
 
--- the texts of answers, each about its address, in order; else the first error
+-- the texts of answers, each with its address, in order; or the first error
 abbrev pub texts_of_answers : List ℕ → List AnswerView → Result (List ℕ) Error
 texts_of_answers (address ∷ addresses) (answer ∷ answers) =
     and_then (answer_text address answer) (λ text.
@@ -24,7 +24,7 @@ texts_of_answers (address ∷ addresses) (answer ∷ answers) =
     Ok (text ++ texts)))
 texts_of_answers addresses answers = Ok []
 
--- the addresses that the answers of a report are about, as a command wants it: a list is about none, and has one answer
+-- the addresses of the answers of a report, by its command; a list has no address and one answer
 abbrev pub answer_addresses : Command → List ℕ → List ℕ
 answer_addresses Names addresses = addresses
 answer_addresses Frames addresses = addresses

@@ -1,4 +1,4 @@
--- How a run of the program ends.
+-- The ends of a run of the program.
 use Rattle.std.specs.Prelude.{◌≡◌, ℕ, List, Result, Ok, Err}
 use Rattle.pdb_records.specs.Records.{Records}
 use Rattle.pdb_json_values.specs.declared.record_fault.RecordFault.{RecordFault}
@@ -12,12 +12,12 @@ use Rattle.pdb_report_lib.specs.declared.command_error.CommandError.TheVariants 
 use Rattle.pdb_report_lib.specs.Sinks.{SinkState}
 use Rattle.pdb_report_lib.specs.FileReports.{opened, TakesTexts, EndsOver}
 
--- the exit status of a run that ends early: 1 where the records are refused or memory ran out, and else 2
+-- the exit status of a run that ends early: 1 if the records are refused or memory ran out, otherwise 2
 abbrev pub status_of : CommandError → ℕ
 status_of (Refused error) = 1
 status_of other = 2
 
--- what a report's fault stops a run for
+-- the error of a run whose report has this fault
 abbrev pub command_error_of : ReportFault → CommandError
 command_error_of (Lookup error) = Refused error
 command_error_of Write = CannotWrite
@@ -30,13 +30,13 @@ StopsOver command addresses records before after CannotWrite =
     EndsOver command addresses (opened records) before after Write
 StopsOver command addresses records before after other = ⊥
 
--- a run answers that a file holds no records, with the file's path and the fault; the sink is as it was
+-- a run reports that a file has no records, with the file's path and the fault; the sink is unchanged
 abbrev pub StopsAtFault : List ℕ → RecordFault → SinkState → SinkState → CommandError → Type 0
 StopsAtFault path fault before after (stop.Records shown given) = (shown.now ≡ path) × (given ≡ fault)
     × (after ≡ before)
 StopsAtFault path fault before after other = ⊥
 
--- how a run ends over what was read of the file at a path: the records, or the fault in the file
+-- the end of a run over the result of reading the file at a path: the records, or the fault in the file
 abbrev pub Ends : {A : Type 0} → List ℕ → Command → List ℕ → Result Records RecordFault
     → SinkState → SinkState → Result A CommandError → Type 0
 Ends path command addresses (Ok records) before after (Ok done) =
@@ -45,8 +45,8 @@ Ends path command addresses (Ok records) before after (Err why) = StopsOver comm
 Ends path command addresses (Err fault) before after (Ok done) = ⊥
 Ends path command addresses (Err fault) before after (Err why) = StopsAtFault path fault before after why
 
--- how a run ends over the bytes of a file and its module files: as over what is read of them, which is what they hold
--- unless memory runs out
+-- the end of a run over the bytes of a file and its module files: that over the records in them, except after an
+-- allocation failure
 pub record EndsOverFile {A : Type 0} (path : List ℕ) (command : Command) (addresses : List ℕ)
     (held : Result Records Fault) (before after : SinkState) (result : Result A CommandError) : Type 0 where
   pub read : Result Records RecordFault

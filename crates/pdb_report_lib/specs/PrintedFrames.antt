@@ -1,16 +1,16 @@
--- The lines that are written of frames.
+-- The printed lines of frames.
 use Rattle.std.specs.Prelude.{ℕ, List, [], ◌∷◌, ◌++◌, codes, Option, Some, None, length}
 use Rattle.std.specs.Fmt.{decimal}
 use Rattle.pdb_frames.specs.Frame.{FrameInfo, FramesInfo}
 use Rattle.pdb_frames.specs.SourceFiles.{FileName}
 use Rattle.pdb_report_lib.specs.PrintedLines.{hex, name_text, unknown}
 
--- the name of a file, where it is known
+-- the name of a file, if it is known
 abbrev pub file_text : Option FileName → List ℕ
 file_text None = unknown
 file_text (Some name) = name.text
 
--- the number of a line in a file, where it is known
+-- the number of a line in a file, if it is known
 abbrev pub line_number_text : Option ℕ → List ℕ
 line_number_text None = unknown
 line_number_text (Some line) = decimal line
@@ -26,12 +26,12 @@ abbrev pub frame_lines : List FrameInfo → List ℕ
 frame_lines [] = []
 frame_lines (frame ∷ frames) = frame_line frame ++ frame_lines frames
 
--- the line before the frames of an address, which says how many there are
+-- the line before the frames of an address, with their number
 abbrev pub frames_heading : ℕ → ℕ → List ℕ
 frames_heading address count =
     codes "0x" ++ (hex address ++ (codes " - " ++ (decimal count ++ codes " frames:\n")))
 
--- the lines of an address: the frames there, or that there are none
+-- the lines of an address: its frames, or that there are none
 abbrev pub frames_text : ℕ → Option FramesInfo → List ℕ
 frames_text address (Some f) = frames_heading address (length f.frames) ++ frame_lines f.frames
 frames_text address None = hex address ++ codes " - no frames found\n"

@@ -1,4 +1,4 @@
--- The line that is written of a function.
+-- The printed line of a function.
 use Rattle.std.specs.Prelude.{ℕ, false, List, [], ◌∷◌, ◌++◌, codes, Option, Some, None}
 use Rattle.std.specs.Fmt.{digits}
 use Rattle.pdb_function_info.specs.Function.{FunctionInfo}
@@ -7,28 +7,28 @@ use Rattle.pdb_function_info.specs.Function.{FunctionInfo}
 abbrev pub hex : ℕ → List ℕ
 hex n = digits 16 false n
 
--- a name, where it is known
+-- a name, if it is known
 abbrev pub name_text : Option (List ℕ) → List ℕ
 name_text None = codes "<unknown>"
 name_text (Some name) = name
 
--- two question marks, for what isn't known
+-- two question marks, for something unknown
 abbrev pub unknown : List ℕ
 unknown = 63 ∷ 63 ∷ []
 
--- an end, where it is known
+-- an end, if it is known
 abbrev pub end_text : Option ℕ → List ℕ
 end_text None = unknown
 end_text (Some address) = codes "0x" ++ hex address
 
--- the line of an address: the function there, or that there is none
+-- the line of an address: its function, or that there is none
 abbrev pub names_line : ℕ → Option FunctionInfo → List ℕ
 names_line address (Some f) =
     codes "0x" ++ (hex address ++ (codes " - " ++ (name_text f.name
     ++ (codes " 0x" ++ (hex f.start_rva ++ (codes ".." ++ (end_text f.end_rva ++ codes "\n")))))))
 names_line address None = hex address ++ codes " - no function found\n"
 
--- the line of a function in a list: where it starts and ends, and its name
+-- the line of a function in a list: its start, its end and its name
 abbrev pub list_line : FunctionInfo → List ℕ
 list_line f =
     codes "0x" ++ (hex f.start_rva ++ (codes ".." ++ (end_text f.end_rva

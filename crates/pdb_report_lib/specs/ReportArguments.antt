@@ -1,4 +1,4 @@
--- What the words of a command line ask for.
+-- Parses the words of a command line.
 use Rattle.std.specs.Prelude.{ℕ, ◌+◌, ◌-◌, ◌*◌, ◌^◌, List, [], ◌∷◌, length, drop, codes, Option}
 use Rattle.std.specs.Prelude.{Some, None, nat_le, nat_lt, nat_eq, ◌&&◌, if◌then◌else◌}
 use Rattle.std.specs.List.{starts_with}
@@ -8,7 +8,7 @@ use Rattle.pdb_report_lib.specs.declared.reports.Command.{Command}
 use Rattle.pdb_report_lib.specs.declared.reports.Command.TheVariants.{Names, Frames}
 use Rattle.pdb_report_lib.specs.declared.reports.Command.TheVariants as wanted
 
--- what follows from a value, where there is one
+-- passes an optional value to a computation
 infixl 10 ◌>>=◌
 abbrev pub ◌>>=◌ : {A B : Type 0} → Option A → (A → Option B) → Option B
 None >>= next = None
@@ -22,11 +22,11 @@ hex_digit c =
     else if nat_le 65 c && nat_le c 70 then Some (c - 55)
     else None
 
--- a number, where it fits 32 bits
+-- a number, if it fits in 32 bits
 abbrev pub in_32_bits : ℕ → Option ℕ
 in_32_bits n = if nat_lt n (2 ^ 32) then Some n else None
 
--- the number that hexadecimal digits spell after one read so far
+-- the number in hexadecimal digits, after the number of the digits before them
 abbrev pub hex_after : ℕ → List ℕ → Option ℕ
 hex_after value [] = Some value
 hex_after value (c ∷ cs) = do
@@ -38,16 +38,16 @@ hex_after value (c ∷ cs) = do
 abbrev pub without_prefix : List ℕ → List ℕ
 without_prefix text = if starts_with nat_eq text (codes "0x") then drop 2 text else text
 
--- the address that a word spells: one to eight hexadecimal digits
+-- the address in a word of one to eight hexadecimal digits
 abbrev pub digits_address : List ℕ → Option ℕ
 digits_address digits =
     if nat_lt 0 (length digits) && nat_le (length digits) 8 then hex_after 0 digits else None
 
--- the address that a word spells, with or without `0x`
+-- the address in a word, with or without `0x`
 abbrev pub address_of : List ℕ → Option ℕ
 address_of word = digits_address (without_prefix word)
 
--- the addresses that words spell, each of them
+-- the addresses in words; none if one of the words has no address
 abbrev pub addresses_of : List (List ℕ) → Option (List ℕ)
 addresses_of [] = Some []
 addresses_of (word ∷ words) = do
@@ -55,7 +55,7 @@ addresses_of (word ∷ words) = do
   rest ← addresses_of words
   Some (address ∷ rest)
 
--- what is asked for: the path of a records file, what to answer, and of which addresses
+-- a request: the path of a records file, the command, and the addresses
 pub record Asked : Type 0 where
   pub path : List ℕ
   pub command : Command
@@ -69,14 +69,14 @@ command_of word =
     else if pointwise nat_eq word (codes "list") then Some wanted.List
     else None
 
--- the addresses that the words after a command ask about: a list takes no words
+-- the addresses in the words after a command; a list takes no words
 abbrev pub asked_addresses : Command → List (List ℕ) → Option (List ℕ)
 asked_addresses Names words = addresses_of words
 asked_addresses Frames words = addresses_of words
 asked_addresses wanted.List [] = Some []
 asked_addresses wanted.List (word ∷ words) = None
 
--- what the words after the program's name ask for; no answer asks for the usage line
+-- the request in the words after the program's name; without one, the usage line is printed
 abbrev pub asked : List (List ℕ) → Option Asked
 asked (program ∷ path ∷ command ∷ words) = do
   command ← command_of command
@@ -84,6 +84,6 @@ asked (program ∷ path ∷ command ∷ words) = do
   Some (record { path = path; command = command; addresses = addresses })
 asked other = None
 
--- a request, as it was asked
+-- the model of `ReportArguments`
 abbrev pub request : ReportArguments → Asked
 request r = record { path = r.path.now; command = r.command; addresses = r.addresses.items }

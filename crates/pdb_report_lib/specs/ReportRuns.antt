@@ -1,4 +1,4 @@
--- How a run of the program ends.
+-- The ends of a run of the program.
 use Rattle.std.specs.Prelude.{◌≡◌, ◌⊎◌, true, List, ℕ, Option, Some, None, Result, Ok, Err, string_bytes}
 use Rattle.std.specs.Io.KnownBytes.{Keeps}
 use Rattle.pdb_errors.specs.declared.error.Error.TheVariants.{OutOfMemory}
@@ -15,14 +15,14 @@ use Rattle.pdb_report_lib.specs.CommandError.{EndsOverFile}
 use Rattle.pdb_report_lib.specs.Sinks.{SinkState}
 use Rattle.pdb_report_lib.specs.ReportArguments.{Asked}
 
--- a file can't be read, and is shown by its path; or memory ran out
+-- a file can't be read, and the error has its path; or memory ran out
 abbrev pub IsReadStop : List ℕ → CommandError → Type 0
 IsReadStop path (CannotRead shown) = shown.now ≡ path
 IsReadStop path (Refused error) = error ≡ OutOfMemory
 IsReadStop path other = ⊥
 
--- a module file that a records file with this value wants can't be read, and is shown by its path; or the value shows
--- no module files; or memory ran out
+-- a module file that a records file with this value wants can't be read, and the error has its path; or the value has
+-- no readable names of module files; or memory ran out
 abbrev pub AreModuleReadStops : List ℕ → Data → CommandError → Type 0
 AreModuleReadStops records_path value (CannotReadModule shown) =
     IsWantedPath records_path (wanted_files_of value) (string_bytes shown)
@@ -31,13 +31,13 @@ AreModuleReadStops records_path value (stop.Records shown fault) =
     (shown.now ≡ records_path) × IsFaultOf fault (wanted_files_of value)
 AreModuleReadStops records_path value other = ⊥
 
--- why a run ends early whose words ask for nothing: memory ran out, or it shows how to ask; the sink is as it was
+-- why a run without a request ends early: memory ran out, or it prints the usage; the sink is unchanged
 abbrev pub StopsUnasked : SinkState → SinkState → CommandError → Type 0
 StopsUnasked before after Usage = after ≡ before
 StopsUnasked before after (Refused error) = (error ≡ OutOfMemory) × (after ≡ before)
 StopsUnasked before after other = ⊥
 
--- a run ends as it does over the bytes of some file and of its module files, and what the sink holds back is handed on
+-- a run ends as over the bytes of some file and its module files, and the sink is flushed
 pub record EndsOverSomeFile {A : Type 0} (asked : Asked) (before after : SinkState) (result : Result A CommandError)
     : Type 0 where
   pub bytes : List ℕ
@@ -48,7 +48,7 @@ pub record EndsOverSomeFile {A : Type 0} (asked : Asked) (before after : SinkSta
   pub same : Keeps written.held after.held
   pub unchanged : after.failed ≡ written.failed
 
--- a sink takes what it does over the bytes of some file and of its module files, and refuses to hand it on
+-- a sink takes the text over the bytes of some file and its module files, but can't be flushed
 pub record EndsAtFlush (A : Type 0) (asked : Asked) (before after : SinkState) : Type 0 where
   pub bytes : List ℕ
   pub files : List (List ℕ)
@@ -59,7 +59,8 @@ pub record EndsAtFlush (A : Type 0) (asked : Asked) (before after : SinkState) :
   pub same : Keeps written.held after.held
   pub failed : after.failed ≡ true
 
--- some bytes show no module files, for this fault, which is shown with the file's path; the sink is as it was
+-- some bytes have no readable names of module files; the fault is reported with the file's path, and the sink is
+-- unchanged
 pub record StopsWithoutModules (asked : Asked) (before after : SinkState) (path : List ℕ) (fault : RecordFault)
     : Type 0 where
   pub shown : path ≡ asked.path
@@ -67,14 +68,14 @@ pub record StopsWithoutModules (asked : Asked) (before after : SinkState) (path 
   pub refused : IsFaultOf fault (module_files_of bytes)
   pub same : after ≡ before
 
--- a module file that some bytes want can't be read, and is shown by its path; the sink is as it was
+-- a module file that some bytes want can't be read, and the error has its path; the sink is unchanged
 pub record StopsAtModule (asked : Asked) (before after : SinkState) (path : List ℕ) : Type 0 where
   pub bytes : List ℕ
   pub shown : IsWantedPath asked.path (module_files_of bytes) path
   pub same : after ≡ before
 
--- why a run ends early whose words ask for something: a file can't be read, and is shown by its path, or memory runs
--- out before a text is written; or it ends over what the files hold; or the sink refuses to hand the texts on
+-- why a run with a request ends early: a file can't be read, and the error has its path; or memory ran out before the
+-- first text; or it ends over the contents of the files; or the sink can't be flushed
 abbrev pub StopsAsked : Type 0 → Asked → SinkState → SinkState → CommandError → Type 0
 StopsAsked A asked before after Usage = ⊥
 StopsAsked A asked before after (Refused error) =
@@ -88,7 +89,7 @@ StopsAsked A asked before after (stop.Records path fault) =
 StopsAsked A asked before after CannotWrite =
     EndsOverSomeFile {A = A} asked before after (Err CannotWrite) ⊎ EndsAtFlush A asked before after
 
--- how a run ends, by what its words ask for
+-- the end of a run, by the request in its words
 abbrev pub EndsRun : {A : Type 0} → Option Asked → SinkState → SinkState → Result A CommandError → Type 0
 EndsRun None before after (Ok done) = ⊥
 EndsRun None before after (Err why) = StopsUnasked before after why

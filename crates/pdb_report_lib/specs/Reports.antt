@@ -1,4 +1,4 @@
--- What a report writes, and why it ends early.
+-- The texts of reports, and why reports end early.
 use Rattle.std.specs.Prelude.{◌≡◌, ◌≢◌, ◌≤◌, ℕ, true, List, [], ◌∷◌, ◌++◌}
 use Rattle.std.specs.Prelude.{Some, Result, Ok, Err, length, take, map, slice_get}
 use Rattle.pdb_errors.specs.declared.error.Error.{Error}
@@ -26,15 +26,15 @@ use Rattle.pdb_report_lib.specs.PrintedLines.{names_line, list_text}
 abbrev pub function_text : {P : Type 0} → (P → ProviderInfos) → ContextInputs P → ℕ → Result (List ℕ) Error
 function_text info inputs address = Ok (names_line address (function_at info inputs address))
 
--- the text of an address, where these parts of the records of code failed before: the lines of the frames there, or the
--- error of the look-up
+-- the text of an address: the lines of the frames there, or the error of the lookup, if these parts of the records of
+-- code failed before
 abbrev pub stack_text : {P : Type 0} → (P → ProviderInfos) → ContextInputs P → CodeParts → ℕ
     → Result (List ℕ) Error
 stack_text info inputs failed address =
     and_then (answered_refusal failed (blamed_at info inputs address) (frames_at info inputs address)) (λ frames.
     Ok (frames_text address frames))
 
--- the texts of addresses in order, where each of them has one; else the first error
+-- the texts of addresses in order, or the first error
 abbrev pub addresses_text : (ℕ → Result (List ℕ) Error) → List ℕ → Result (List ℕ) Error
 addresses_text text_of [] = Ok []
 addresses_text text_of (address ∷ addresses) =
@@ -42,22 +42,21 @@ addresses_text text_of (address ∷ addresses) =
     and_then (addresses_text text_of addresses) (λ texts.
     Ok (text ++ texts)))
 
--- the text of a report, as a command wants it, where these parts of the records of code failed before: a list shows
--- all functions, whatever the addresses are
+-- the text of a report by its command, if these parts of the records of code failed before; a list has all functions
+-- and ignores the addresses
 abbrev pub report_text : {P : Type 0} → (P → ProviderInfos) → ContextInputs P → CodeParts → Command → List ℕ
     → Result (List ℕ) Error
 report_text info inputs failed Names addresses = addresses_text (function_text info inputs) addresses
 report_text info inputs failed Frames addresses = addresses_text (stack_text info inputs failed) addresses
 report_text info inputs failed wanted.List addresses = Ok (list_text (functions_of info inputs))
 
--- the calls of a context that a report makes: one for each address, or one for all functions
+-- the calls of a report to its context: one for each address, or one for all functions
 abbrev pub report_calls : Command → List ℕ → List Call
 report_calls Names addresses = map FindFunction addresses
 report_calls Frames addresses = map FindFrames addresses
 report_calls wanted.List addresses = Functions ∷ []
 
--- a context once the frames over an address are asked for: where memory ran out it remembers no more than broken parts
--- of the records besides, and else it is as the look-up leaves it
+-- a context after a lookup of frames; after an allocation failure, it has remembered only broken parts of the records
 abbrev pub IsLeftByFrames : {P : Type 0} → (P → ProviderInfos) → ContextState P → ℕ → ReportFault → ContextState P
     → Type 0
 IsLeftByFrames info before address (Lookup error) after =
@@ -65,7 +64,7 @@ IsLeftByFrames info before address (Lookup error) after =
     × (error ≢ OutOfMemory → after ≡ after_frames info before address)
 IsLeftByFrames info before address Write after = after ≡ after_frames info before address
 
--- a context that answered the frames over the first of these addresses, and was then asked for those over the next
+-- a context that found the frames at the first of these addresses, and then looked up those at the next one
 pub record IsLeftAmid {P : Type 0} (info : P → ProviderInfos) (before after : ContextState P) (addresses : List ℕ)
     (fault : ReportFault) : Type 0 where
   pub done : ℕ
@@ -73,8 +72,8 @@ pub record IsLeftAmid {P : Type 0} (info : P → ProviderInfos) (before after : 
   pub next : slice_get addresses done ≡ Some address
   pub left : IsLeftByFrames info (after_calls info before (map FindFrames (take done addresses))) address fault after
 
--- a context where a report ended early: the look-ups before are made, and of the one that was under way only broken
--- parts of the records are remembered
+-- the context after a report that ended early: the lookups before are done, and of the last one only broken parts of
+-- the records are remembered
 abbrev pub IsLeft : {P : Type 0} → (P → ProviderInfos) → ContextState P → ContextState P → Command → List ℕ
     → ReportFault
     → Type 0
@@ -83,17 +82,18 @@ IsLeft info before after Frames addresses fault = IsLeftAmid info before after a
 IsLeft info before after wanted.List addresses fault =
     IsCutShort info before after (start_addresses info before.inputs)
 
--- a sink takes the text, where there is one
+-- a sink takes the text, if there is one
 abbrev pub TakesText : Result (List ℕ) Error → SinkState → SinkState → Type 0
 TakesText (Ok text) before after = Takes before after text
 TakesText (Err error) before after = ⊥
 
--- the look-up of an address has this error or found no memory, and the sink is as it was; or the sink refused the text
+-- the lookup of an address has this error or an allocation failure, and the sink is unchanged; or the sink refused the
+-- text
 abbrev pub EndsAtOnce : Result (List ℕ) Error → SinkState → SinkState → ReportFault → Type 0
 EndsAtOnce text before after (Lookup error) = (error ≢ OutOfMemory → text ≡ Err error) × (after ≡ before)
 EndsAtOnce text before after Write = after.failed ≡ true
 
--- a look-up has this error or found no memory, and the sink took the texts of the addresses before that one
+-- a lookup has this error or an allocation failure, and the sink has the texts of the addresses before that one
 pub record EndsAt (text_of : ℕ → Result (List ℕ) Error) (addresses : List ℕ) (before after : SinkState) (error : Error)
     : Type 0 where
   pub done : ℕ
@@ -102,12 +102,12 @@ pub record EndsAt (text_of : ℕ → Result (List ℕ) Error) (addresses : List 
   pub refused : error ≢ OutOfMemory → text_of address ≡ Err error
   pub taken : TakesText (addresses_text text_of (take done addresses)) before after
 
--- why a report of addresses ends early: at a look-up, or where the sink refused a text
+-- why a report of addresses ends early: a lookup failed, or the sink refused a text
 abbrev pub EndsAmidTexts : (ℕ → Result (List ℕ) Error) → List ℕ → SinkState → SinkState → ReportFault → Type 0
 EndsAmidTexts text_of addresses before after (Lookup error) = EndsAt text_of addresses before after error
 EndsAmidTexts text_of addresses before after Write = after.failed ≡ true
 
--- memory ran out, and the sink took the lines of the functions before
+-- memory ran out, and the sink has the lines of the functions before
 pub record EndsAmidList (functions : List FunctionInfo) (before after : SinkState) (error : Error) : Type 0 where
   pub done : ℕ
   pub within : done ≤ length functions

@@ -1,4 +1,4 @@
-//! Why the program ended early, as the line that it prints, and its exit status.
+//! `CommandError`: why the program ended early, with its message and its exit status.
 
 ghost use Rattle.std.specs.Prelude.{◌≡◌};
 ghost use Rattle.pdb_report_lib.specs.CommandError.{status_of, command_error_of};
@@ -7,13 +7,13 @@ use crate::reports::ReportFault;
 use pdb_addr2line::Error;
 use pdb_json::RecordFault;
 
-/// Why the program ended early. Its text is the line that the program prints.
+/// Why the program ended early. The error's text is the line that the program prints.
 #[derive(Debug, Drop, thiserror::Error)]
 pub enum CommandError<'w> {
-    /// The records were refused, or there was no memory.
+    /// The records were refused, or memory ran out.
     #[error("pdb_report: {0}")]
     Refused(Error),
-    /// The command line asked for nothing.
+    /// The command line can't be parsed.
     #[error("usage: pdb_report RECORDS (frames|names ADDRESS...|list)")]
     Usage,
     /// The records file could not be read.
@@ -22,16 +22,16 @@ pub enum CommandError<'w> {
     /// The module file at this path could not be read.
     #[error("pdb_report: cannot read {0}")]
     CannotReadModule(String),
-    /// The records file holds no records.
+    /// The file can't be read as a records file.
     #[error("pdb_report: {0}: {1}")]
     Records(&'w str, RecordFault),
-    /// What was answered could not be written.
+    /// The answers could not be written.
     #[error("pdb_report: cannot write")]
     CannotWrite,
 }
 
 impl CommandError<'_> {
-    /// The exit status that goes with it.
+    /// The exit status for this error.
     pub fn status(&self) -> u8
         ensures { result ≡ status_of self.now }
     {

@@ -1,4 +1,4 @@
-//! Writes a report over the records of a file, or answers why there is none.
+//! Writes a report over the records of a file, or returns why there is none.
 
 ghost use Rattle.std.specs.Prelude.{OnOk, IfErr};
 ghost use Rattle.pdb_json.specs.ModuleFiles.{contents};
@@ -17,7 +17,7 @@ use pdb_addr2line::pdb::PDB;
 use pdb_json::{RecordFault, RecordsFile};
 use std::alloc::Global;
 
-// Writes what a request asks for, over records whose streams were read.
+// Writes the report of a request, over prepared records.
 fn report_data<W: Sink>(
     alloc: Global,
     request: &ReportArguments<'_>,
@@ -39,7 +39,7 @@ fn report_data<W: Sink>(
     )
 }
 
-// Writes what a request asks for, over records.
+// Writes the report of a request, over records.
 fn report_records<W: Sink>(
     alloc: Global,
     request: &ReportArguments<'_>,
@@ -55,14 +55,14 @@ fn report_records<W: Sink>(
     report_data(alloc, request, &data, sink)
 }
 
-/// Writes what a request asks for, over what was read of its records file.
+/// Writes the report of a request, over the records of its file if they could be read.
 ///
 /// # Errors
 ///
-/// [`CommandError::Records`] with the path and the fault where the file holds no records, [`CommandError::Refused`] where the
-/// records or an address are refused or memory ran out, and [`CommandError::CannotWrite`] where the sink refused a text. The
-/// sink holds nothing of it then but the texts of the addresses before one that had an error, or for which there was
-/// no memory.
+/// [`CommandError::Records`] with the path and the fault if the file can't be read as a records file,
+/// [`CommandError::Refused`] if the records or an address are refused or memory runs out, and
+/// [`CommandError::CannotWrite`] if the sink refuses a text. The sink then has only the texts of the addresses before
+/// the one with the error.
 pub fn report_read<'w, W: Sink>(
     alloc: Global,
     request: &ReportArguments<'w>,
@@ -81,11 +81,11 @@ pub fn report_read<'w, W: Sink>(
     }
 }
 
-/// Writes what a request asks for, over its records file and the bytes of the module files that this one names.
+/// Writes the report of a request, over its records file and the bytes of the module files that this one names.
 ///
 /// # Errors
 ///
-/// As [`report_read`] for what is read of them.
+/// Those of [`report_read`].
 pub fn report_file<'w, W: Sink>(
     alloc: Global,
     request: &ReportArguments<'w>,

@@ -1,4 +1,4 @@
-//! What the program `pdb_report` writes: the functions or the frames over addresses, or all functions.
+//! Writes the reports of the program `pdb_report`: functions or frames at addresses, or all functions.
 #![tactic(auto)]
 
 mod command_error;

@@ -1,4 +1,4 @@
-//! The lines that are written of the frames over an address.
+//! Writes the lines for the frames at an address.
 
 ghost use Rattle.std.specs.Prelude.{◌≡◌, ◌++◌, length, string_bytes, IfOk, OnOk, option_map};
 ghost use Rattle.pdb_frames.specs.SourceFiles.{file_name_of};
@@ -10,7 +10,7 @@ use pdb_addr2line::{Frame, FunctionFrames};
 use std::alloc::{AllocError, Global};
 use std::borrow::CowStr;
 
-// The name of a file, where it is known.
+// The name of a file, or a placeholder if it isn't known.
 fn file_text<'f>(file: &'f Option<CowStr<'_>>) -> &'f str
     ensures { result.now ≡ file_text (option_map file_name_of file.now) }
 {
@@ -20,7 +20,7 @@ fn file_text<'f>(file: &'f Option<CowStr<'_>>) -> &'f str
     }
 }
 
-// The number of a line in a file, where it is known.
+// The number of a line, or a placeholder if it isn't known.
 fn line_number_text(alloc: Global, line: Option<u32>) -> Result<String, AllocError>
     ensures { IfOk result (λ s. string_bytes s ≡ line_number_text line) }
 {

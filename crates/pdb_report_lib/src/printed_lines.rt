@@ -1,4 +1,4 @@
-//! The line that is written of a function, over an address or in a list.
+//! Writes the line for a function, at an address or in a list.
 
 ghost use Rattle.std.specs.Prelude.{◌≡◌, Some, option_map, string_bytes, IfOk};
 ghost use Rattle.pdb_function_info.specs.Function.{function_view};
@@ -7,13 +7,13 @@ ghost use Rattle.pdb_report_lib.specs.PrintedLines.{name_text, end_text, names_l
 use pdb_addr2line::Function;
 use std::alloc::{AllocError, Global};
 
-// What stands for a name that isn't known.
+// The placeholder for an unknown name.
 const UNKNOWN_NAME: &str = "<unknown>";
 
-// What stands for anything else that isn't known.
+// The placeholder for anything else that isn't known.
 pub(crate) const UNKNOWN: &str = "??";
 
-// A name, where it is known.
+// A name, or a placeholder if it isn't known.
 pub(crate) fn name_text(name: &Option<String>) -> &str
     ensures { result.now ≡ name_text (option_map string_bytes name.now) }
 {
@@ -23,7 +23,7 @@ pub(crate) fn name_text(name: &Option<String>) -> &str
     }
 }
 
-// An end, where it is known.
+// An end, or a placeholder if it isn't known.
 fn end_text(alloc: Global, end: Option<u32>) -> Result<String, AllocError>
     ensures { IfOk result (λ s. string_bytes s ≡ end_text end) }
 {

@@ -1,4 +1,4 @@
-//! What the words of a command line ask for: the records file, a command, and addresses.
+//! Parses the command line of `pdb_report`: the records file, a command, and addresses.
 
 ghost use Rattle.std.specs.Prelude.{◌≡◌, ◌++◌, map, option_map, string_bytes, IfOk};
 ghost use Rattle.pdb_report_lib.specs.ReportArguments.{hex_digit, hex_after, without_prefix, digits_address};
@@ -7,17 +7,17 @@ ghost use Rattle.pdb_report_lib.specs.ReportArguments.{address_of, addresses_of,
 use crate::reports::Command;
 use std::alloc::{AllocError, Global};
 
-// The most digits that an address has.
+// The maximum number of digits of an address.
 const ADDRESS_DIGITS: usize = 8;
 
-/// What a command line asks for.
+/// A parsed command line.
 #[derive(Drop)]
 pub struct ReportArguments<'w> {
     /// The path of the records file.
     pub path: &'w str,
-    /// What to answer.
+    /// The command.
     pub command: Command,
-    /// Of which addresses, in order. A list has none.
+    /// The addresses, in order. The command `list` has none.
     pub addresses: Vec<u32>,
 }
 
@@ -33,7 +33,7 @@ fn digit_value(digit: u8) -> Option<u32>
     }
 }
 
-// The number that hexadecimal digits spell, where it fits 32 bits.
+// The number in hexadecimal digits, if it fits 32 bits.
 fn hex_value(digits: &[u8]) -> Option<u32>
     ensures { result ≡ hex_after 0 digits.now }
 {
@@ -45,8 +45,7 @@ fn hex_value(digits: &[u8]) -> Option<u32>
     Some(value)
 }
 
-/// The address that a word spells: one to eight hexadecimal digits of either case, with `0x` before
-/// them or without.
+/// Parses an address: one to eight hexadecimal digits in either case, with or without `0x` before them.
 pub fn parse_address(word: &str) -> Option<u32>
     ensures { result ≡ address_of word.now }
 {
@@ -60,7 +59,7 @@ pub fn parse_address(word: &str) -> Option<u32>
     hex_value(digits)
 }
 
-// The addresses that words spell, where each of them spells one.
+// Parses addresses; `None` if one of the words isn't one.
 fn parse_addresses(alloc: Global, words: &[String]) -> Result<Option<Vec<u32>>, AllocError>
     ensures { IfOk result
         (λ found. option_map (λ v. v.items) found ≡ addresses_of (map string_bytes words.now)) }
@@ -75,7 +74,7 @@ fn parse_addresses(alloc: Global, words: &[String]) -> Result<Option<Vec<u32>>, 
     Ok(Some(addresses))
 }
 
-// The command of a word.
+// Parses a command.
 fn parse_command(word: &str) -> Option<Command>
     ensures { result ≡ command_of word.now }
 {
@@ -90,7 +89,7 @@ fn parse_command(word: &str) -> Option<Command>
     }
 }
 
-// The addresses that the words after a command ask about. A list takes no words.
+// Parses the words after a command as addresses. The command `list` takes none.
 fn parse_words(
     alloc: Global,
     command: Command,
@@ -106,7 +105,7 @@ fn parse_words(
     }
 }
 
-/// What the words of a command line ask for, the program's name first. `None` asks for the usage line.
+/// Parses the words of a command line, the program's name first. `None` means that the usage line should be printed.
 pub fn parse(alloc: Global, words: &[String]) -> Result<Option<ReportArguments<'_>>, AllocError>
     ensures { IfOk result (λ r. option_map request r ≡ asked (map string_bytes words.now)) }
 {

@@ -1,4 +1,4 @@
-//! `run`, which does what a command line asks for: it reads the files and writes the report.
+//! `run`: parses a command line, reads the files and writes the report.
 
 ghost use Rattle.std.specs.Prelude.{IfErr, map, string_bytes};
 ghost use Rattle.serde_json.specs.Data.{Data};
@@ -17,11 +17,12 @@ use std::rt::Files;
 use std::{fs, io};
 
 /// Does what the words of a command line ask for: reads the records file and then the module files that it names,
-/// and writes the report. What the writer holds back is handed on at the end.
+/// writes the report, and flushes the writer.
 ///
 /// # Errors
 ///
-/// Each [`CommandError`]. Out of memory is [`CommandError::Refused`], but over a records file [`CommandError::Records`].
+/// Each [`CommandError`]. Out of memory is [`CommandError::Refused`], except while a records file is read: then it is
+/// [`CommandError::Records`].
 pub fn run<'w, R: Files + AllocGlobal, W: io::Write>(
     rt: &R,
     words: &'w [String],
@@ -64,7 +65,7 @@ fn read_file<'w, R: Files + AllocGlobal>(rt: &R, path: &'w str) -> Result<Vec<u8
     }
 }
 
-// Why a run ends over a records file whose module files can't be read.
+// The error of a run whose module files can't be read.
 fn module_stop(path: &str, fault: ModuleFileError) -> CommandError<'_>
     ensures { (value : Data) → AreModuleFileFaults path.now value fault → AreModuleReadStops path.now value result }
 {

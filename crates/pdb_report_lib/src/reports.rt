@@ -1,4 +1,4 @@
-//! Writes a report: looks up each address, and writes its text whole before the next is looked up.
+//! Writes a report: looks up each address, and writes its complete text before the next lookup.
 
 ghost use Rattle.std.specs.Prelude.{◌≡◌, [], ◌∷◌, map, Ok, OnOk, OnErr, IfErr};
 ghost use Rattle.pdb_errors.specs.declared.error.Error.TheVariants.{OutOfMemory};
@@ -20,22 +20,22 @@ use crate::sinks::{Sink, SinkFault};
 use pdb_addr2line::{Context, Error, FunctionFrames, ModuleProvider};
 use std::alloc::{AllocError, Global};
 
-/// What is asked of the program.
+/// A command of the program.
 #[derive(Clone, Copy)]
 pub enum Command {
-    /// The function that each address lies in.
+    /// The function at each address.
     Names,
-    /// The functions in whose code each address lies, with files and lines, from inside to outside.
+    /// The frames at each address, with files and lines, the innermost first.
     Frames,
-    /// All functions of the program, by where they start. No addresses are asked about.
+    /// All functions of the program, sorted by start. It takes no addresses.
     List,
 }
 
 /// Why a report ended early.
 #[derive(Debug, Drop)]
 pub enum ReportFault {
-    /// A look-up had no answer. The sink holds the texts of the addresses before it, or in a list the lines of
-    /// the functions before it.
+    /// A lookup failed. The sink has the texts of the addresses before it, or for a list the lines of the functions
+    /// before it.
     Lookup(Error),
     /// The sink refused a piece of text.
     Write,
@@ -65,7 +65,7 @@ impl From<SinkFault> for ReportFault {
     }
 }
 
-// The frames over an address. What the context met broken on the way is broken.
+// The frames at an address. The parts that the context finds broken are remembered.
 fn look_up_frames<'a, P: ModuleProvider>(
     context: &mut Context<'a, P>,
     address: u32,
@@ -78,7 +78,7 @@ fn look_up_frames<'a, P: ModuleProvider>(
     context.find_frames(address)
 }
 
-// Writes the line of one address, after its look-up.
+// Looks up an address, and writes its line.
 fn put_function<P: ModuleProvider, W: Sink>(
     alloc: Global,
     context: &mut Context<'_, P>,
@@ -99,7 +99,7 @@ fn put_function<P: ModuleProvider, W: Sink>(
     Ok(())
 }
 
-// Writes the lines of the frames of one address, after its look-up.
+// Looks up the frames at an address, and writes their lines.
 fn put_frames<P: ModuleProvider, W: Sink>(
     alloc: Global,
     context: &mut Context<'_, P>,
@@ -123,7 +123,7 @@ fn put_frames<P: ModuleProvider, W: Sink>(
     Ok(())
 }
 
-// Writes the line of the function over a start address, after its look-up: nothing where there is none.
+// Looks up the function at a start address, and writes its line. Writes nothing if there is no function.
 fn put_listed<P: ModuleProvider, W: Sink>(
     alloc: Global,
     context: &mut Context<'_, P>,
@@ -145,8 +145,7 @@ fn put_listed<P: ModuleProvider, W: Sink>(
     Ok(())
 }
 
-// Writes the lines of the functions over addresses, in order. The line of an address is written whole after
-// its look-up.
+// Writes the line of the function at each address, in order. Each line is written before the next lookup.
 fn report_names<P: ModuleProvider, W: Sink>(
     alloc: Global,
     context: &mut Context<'_, P>,
@@ -167,8 +166,7 @@ fn report_names<P: ModuleProvider, W: Sink>(
     Ok(())
 }
 
-// Writes the lines of the frames over addresses, in order. The lines of an address are written whole after
-// its look-up.
+// Writes the lines of the frames at each address, in order. They are written before the next lookup.
 fn report_frames<P: ModuleProvider, W: Sink>(
     alloc: Global,
     context: &mut Context<'_, P>,
@@ -192,8 +190,7 @@ fn report_frames<P: ModuleProvider, W: Sink>(
     Ok(())
 }
 
-// Writes the lines of all functions, by where they start. The line of a function is written whole after its
-// look-up.
+// Writes the lines of all functions, sorted by start address. Each line is written before the next lookup.
 fn report_list<P: ModuleProvider, W: Sink>(
     alloc: Global,
     context: &mut Context<'_, P>,
@@ -216,13 +213,13 @@ fn report_list<P: ModuleProvider, W: Sink>(
     Ok(())
 }
 
-/// Writes what is asked of the program: of each address, in order, or of each function. Each text is written
-/// whole after its look-up. A list doesn't look at the addresses.
+/// Writes the report of a command: about each address in order, or about each function. Each text is written completely
+/// before the next lookup. [`Command::List`] ignores the addresses.
 ///
 /// # Errors
 ///
-/// [`ReportFault::Lookup`] at the first address whose look-up has an error, or where memory runs out, and
-/// [`ReportFault::Write`] where the sink refused a text.
+/// [`ReportFault::Lookup`] at the first address whose lookup fails, or on allocation failure. [`ReportFault::Write`] if
+/// the sink refuses a text.
 pub fn report<P: ModuleProvider, W: Sink>(
     alloc: Global,
     context: &mut Context<'_, P>,
@@ -231,7 +228,6 @@ pub fn report<P: ModuleProvider, W: Sink>(
     sink: &mut W,
 ) -> Result<(), ReportFault>
     ensures inputs { context.new.inputs ≡ context.old.inputs }
-    // What failed afterwards is what fails by the calls that the report stands for.
     ensures state { OnOk result
         (context.new ≡ after_calls P.info context.old (report_calls command addresses.now)) }
     ensures early { IfErr result (IsLeft P.info context.old context.new command addresses.now) }

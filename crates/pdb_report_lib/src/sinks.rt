@@ -1,4 +1,4 @@
-//! Where the text of a report goes: a sink takes each piece whole, or refuses it.
+//! `Sink`: takes the text of a report piece by piece, and refuses a piece that it can't write.
 
 ghost use Rattle.std.specs.Prelude.{◌≡◌, true, false, OnOk, OnErr, IsOk, IsErr, MatchResult};
 ghost use Rattle.std.specs.Io.KnownBytes.{Keeps};
@@ -6,21 +6,21 @@ ghost use Rattle.pdb_report_lib.specs.Sinks.{SinkState, Takes};
 
 use std::io;
 
-/// A refused piece of text. What was refused, and why, only the sink knows.
+/// The error of a refused piece of text. It carries no reason: only the sink knows it.
 #[derive(Debug, Clone, Copy)]
 pub struct SinkFault;
 
 /// Takes text piece by piece.
 pub trait Sink {
-    // What is seen of it: the bytes that it holds, where it shows them, and whether a piece was refused.
+    // The model of a sink: the bytes that it holds, if it shows them, and whether it refused a piece.
     ghost state: { Self → SinkState };
 
-    /// Takes a piece of text whole, or refuses it. Of a refused piece some bytes may be held.
+    /// Takes a whole piece of text, or refuses it. The sink may hold some bytes of a refused piece.
     fn put(&mut self, bytes: &[u8]) -> Result<(), SinkFault>
         ensures taken { OnOk result (Takes (state self.old) (state self.new) bytes.now) }
         ensures refused { OnErr result ((state self.new).failed ≡ true) };
 
-    /// Whether a piece was refused so far.
+    /// Whether the sink has refused a piece.
     fn failed(&self) -> bool
         ensures { result ≡ (state self.now).failed };
 }
@@ -33,7 +33,7 @@ pub struct Out<W: io::Write> {
 }
 
 impl<W: io::Write> Out<W> {
-    /// A sink that writes to this writer.
+    /// Makes a sink that writes to a writer.
     pub fn new(writer: W) -> Out<W>
         ensures { ⟦<Out<W> as Sink>⟧.state result ≡ record { held = W.contents writer; failed = false } }
     {
@@ -43,7 +43,7 @@ impl<W: io::Write> Out<W> {
         }
     }
 
-    /// Hands on what the writer holds back.
+    /// Flushes the writer.
     pub fn flush(&mut self) -> Result<(), SinkFault>
         ensures held { Keeps (⟦<Out<W> as Sink>⟧.state self.old).held (⟦<Out<W> as Sink>⟧.state self.new).held }
         ensures unchanged { OnOk result
@@ -54,7 +54,7 @@ impl<W: io::Write> Out<W> {
         self.note(flushed)
     }
 
-    // Remembers that the writer refused, if it did.
+    // Converts the outcome of a write, and remembers a refusal.
     fn note(&mut self, outcome: io::Result<()>) -> Result<(), SinkFault>
         ensures { MatchResult result
             (λ _. IsOk outcome × (self.new ≡ self.old))
@@ -69,7 +69,7 @@ impl<W: io::Write> Out<W> {
         }
     }
 
-    /// The writer, with what was written.
+    /// Consumes the sink, and returns its writer.
     pub fn into_inner(self) -> W
         ensures { W.contents result ≡ (⟦<Out<W> as Sink>⟧.state self).held }
     {
@@ -80,7 +80,7 @@ impl<W: io::Write> Out<W> {
 impl<W: io::Write> Sink for Out<W> {
     ghost state = { λ out. record { held = W.contents out.writer; failed = out.refused } };
 
-    /// Writes the piece whole.
+    /// Writes all bytes of the piece.
     fn put(&mut self, bytes: &[u8]) -> Result<(), SinkFault> {
         let written = self.writer.write_all(bytes);
         self.note(written)

@@ -1,4 +1,4 @@
--- Whose code lies at an address: the module of the contribution over it.
+-- Which module owns the code at an address, by section contributions.
 use Rattle.std.specs.Prelude.{ℕ, Bool, not, false, List, [], Option, None, Result, Ok, Err, find, option_map}
 use Rattle.std.specs.Prelude.{option_and_then, unwrap_or}
 use Rattle.std.specs.Option.{option_map_or}
@@ -20,15 +20,15 @@ pub record Owners : Type 0 where
   pub address_map : List AddressRange
   pub contributions : List ModuleSectionContribution
 
--- the headers of the sections; none where the records don't say them
+-- the section headers; none if the records have none or they can't be read
 abbrev pub headers_of : Records → List ImageSectionHeader
 headers_of records = unwrap_or (result_unwrap_or records.sections None) []
 
--- where sections are loaded; nothing where the records don't say it
+-- where sections are loaded; empty if the records have no address map
 abbrev pub address_map_of : Records → List AddressRange
 address_map_of records = result_unwrap_or records.address_map []
 
--- the merged contributions of debug information that was read; there are none where merging refuses them
+-- the merged contributions of debug information; none if it can't be read or merging is refused
 abbrev pub merged_in : List ImageSectionHeader → Result DebugInformation StreamError → List ModuleSectionContribution
 merged_in headers (Ok debug) = result_unwrap_or (merged_contributions headers debug) []
 merged_in headers (Err fault) = []
@@ -37,11 +37,11 @@ merged_in headers (Err fault) = []
 abbrev pub contributions_in : Records → List ModuleSectionContribution
 contributions_in records = merged_in (headers_of records) records.debug_information
 
--- the owners of the code that records list
+-- the code owners that records list
 abbrev pub owners_of : Records → Owners
 owners_of records = record { address_map = address_map_of records; contributions = contributions_in records }
 
--- the module whose code lies at an address
+-- the module whose merged contribution contains an address
 abbrev pub owner_at : Owners → ℕ → Option ℕ
 owner_at owners address =
     let over = λ (section_offset : PdbInternalSectionOffset).
@@ -49,7 +49,7 @@ owner_at owners address =
     option_map (λ c. c.module_index)
     (option_and_then over (internal_offset owners.address_map (record { 0 = address })))
 
--- the module whose code lies at an address is still to be read
+-- whether the module that owns the code at an address isn't read yet
 abbrev pub lacks_owner : Known → Owners → ℕ → Bool
 lacks_owner known owners address =
     option_map_or (λ module_index. not (is_read known module_index)) (owner_at owners address) false

@@ -1,4 +1,4 @@
--- Types that define names, and types whose sizes are settled once all definitions of some names were read.
+-- Types that define given names, and the sizes that are settled once all definitions of these names were read.
 use Rattle.std.specs.Prelude.{◌≡◌, ◌≢◌, ℕ, ◌&&◌, Bool, true, false, List, slice_get, Some, None}
 use Rattle.std.specs.BTreeSet.{BTreeSet, contains_by}
 use Rattle.std.specs.Cmp.Lexicographic.{slice_cmp}
@@ -13,15 +13,15 @@ use Rattle.pdb_tpi.specs.ItemStreams.{TypeList, item_at}
 use Rattle.pdb_tpi.specs.TypePlaces.{defines_at}
 use Rattle.pdb_tpi.specs.TypeLeaves.{types}
 
--- whether a set of names has one of these bytes
+-- whether a set of names contains these bytes
 abbrev pub has_name : BTreeSet (Vec ℕ) → List ℕ → Bool
 has_name names name = contains_by (λ key. slice_cmp nat_cmp name key.items) names
 
--- whether an entry is a class or a union that goes by one of these names
+-- whether an entry is a class or a union whose name is one of these
 abbrev pub goes_by : BTreeSet (Vec ℕ) → Item TypeIndex TypeData → Bool
 goes_by names item = option_map_or (λ a. has_name names a.name) (item_aggregate item) false
 
--- whether a list defines one of these names at a position
+-- whether the entry at a position of a list defines one of these names
 abbrev pub defines_one : BTreeSet (Vec ℕ) → TypeList → ℕ → Bool
 defines_one names list position =
     defines_at list position && option_map_or (goes_by names) (item_at types list position) false
@@ -32,15 +32,15 @@ AreMarked names list marks = (name : List ℕ) → has_name names name ≡ true
     → (position : ℕ) (item : Item TypeIndex TypeData) → item_at types list position ≡ Some item
     → definition_size name item ≢ None → slice_get marks position ≡ Some true
 
--- whether an entry is no forward reference, or one that goes by one of these names
+-- whether an entry's size is settled: it isn't a forward reference, or its name is one of these
 abbrev pub is_settled : BTreeSet (Vec ℕ) → Item TypeIndex TypeData → Bool
 is_settled names item = option_map_or (has_name names) (entry_name item) true
 
--- whether a list has an entry at a position, and this is no forward reference, or one that goes by one of these names
+-- whether a list has an entry at a position whose size is settled
 abbrev pub is_settled_at : BTreeSet (Vec ℕ) → TypeList → ℕ → Bool
 is_settled_at names list position = option_map_or (is_settled names) (item_at types list position) false
 
--- each forward reference of a list whose size is settled goes by one of these names
+-- each forward reference of a list whose size is settled has one of these names
 abbrev pub AreNamed : BTreeSet (Vec ℕ) → TypeList → List Bool → Type 0
 AreNamed names list sizes = (position : ℕ) (item : Item TypeIndex TypeData) (name : List ℕ)
     → slice_get sizes position ≡ Some true → item_at types list position ≡ Some item → entry_name item ≡ Some name

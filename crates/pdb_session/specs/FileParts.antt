@@ -1,4 +1,5 @@
--- What a session knows of its file: where its modules, types and ids stand, and that what was read is a part of it.
+-- A session's layout of its file (the streams of modules, types and ids), and the law that what it read is a part of
+-- the file's records.
 use Rattle.std.specs.Prelude.{◌≡◌, ℕ, Bool, true, false, List, [], length, replicate, Option, Some, None, Result, Ok, Err, slice_get}
 use Rattle.std.specs.Prelude.{unwrap_or}
 use Rattle.pdb_records.specs.Records.{Records}
@@ -34,18 +35,18 @@ use Rattle.pdb_session.specs.declared.session_error.SessionError.{SessionError}
 use Rattle.pdb_session.specs.declared.session_error.SessionError.TheVariants as session
 use Rattle.pdb_session.specs.declared.type_lists.TypeLists.{TypeLists}
 
--- types or ids, or why they can't be read
+-- types or ids, or the fault by which they can't be read
 abbrev pub ItemsOrFault : Type 0 → Type 0 → Type 0
 ItemsOrFault I D = Result (ItemInformation I D) StreamError
 
--- records start at these places of a stream of the file, and they are this list
+-- a stream of the file has records at these places, and `whole` is their list
 pub record HasListAt (file : List ℕ) (places : TypePlaces) (whole : Result TypeList StreamError) : Type 0 where
   pub stream : List ℕ
   pub said : said_in (Some file) places.records.blocks ≡ Some stream
   pub lies : LieIn places stream
   pub list : whole ≡ Ok (list_at places stream)
 
--- records start at these places of a stream of the file, and its items are what the file has
+-- a stream of the file has records at these places, and `whole` has its items
 pub record HasItemsAt {I D : Type 0} (meaning : ItemMeaning I D) (file : List ℕ) (places : TypePlaces)
     (whole : ItemsOrFault I D) : Type 0 where
   pub stream : List ℕ
@@ -53,8 +54,8 @@ pub record HasItemsAt {I D : Type 0} (meaning : ItemMeaning I D) (file : List �
   pub lies : LieIn places stream
   pub items : whole ≡ Ok (list_items meaning (list_at places stream))
 
--- a list of types or of ids is what the file has, where records start at places of it, or else what it has is why it
--- can't be read, or no item but those of every list
+-- `whole` has the types or ids of the file: those at its places; without places, only the items that every list has; or
+-- the fault of the places
 abbrev pub HasItems : {I D : Type 0} → ItemMeaning I D → List ℕ → Result (Option TypePlaces) StreamError
     → ItemsOrFault I D → Type 0
 HasItems meaning file (Ok (Some places)) whole = HasItemsAt meaning file places whole
@@ -62,17 +63,17 @@ HasItems meaning file (Ok None) whole =
     whole ≡ Ok (record { items = record { items = meaning.first; fault = None } })
 HasItems meaning file (Err fault) whole = whole ≡ Err fault
 
--- a list of records is that of the file, where these start at places of it, or else why it can't be read
+-- `whole` is the file's list of records at its places, or the fault of the places
 abbrev pub HasPlaces : List ℕ → Result (Option TypePlaces) StreamError → Result TypeList StreamError → Type 0
 HasPlaces file (Ok (Some places)) whole = HasListAt file places whole
 HasPlaces file (Ok None) whole = ⊥
 HasPlaces file (Err fault) whole = whole ≡ Err fault
 
--- the list in a stream of the file that stands in these blocks, or why it can't be read
+-- the list in the stream of the file with these blocks, or why it can't be read
 abbrev pub listed_in : List ℕ → Result BlockList StreamError → Result TypeList StreamError
 listed_in file blocks = blocks_read file blocks >>= type_list
 
--- which entries of a list were read, before any was
+-- the span of a list's entries before any was read: none of them is marked
 abbrev pub nothing_read : Option TypePlaces → Span
 nothing_read None = record { first = 0; read = [] }
 nothing_read (Some places) = record {
@@ -80,7 +81,7 @@ nothing_read (Some places) = record {
   read = replicate (length places.starts.items) false;
 }
 
--- the items that a list begins with, before any of a stream was read
+-- the items of a list before any record of its stream was read: those that every list begins with
 abbrev pub first_information : {I D : Type 0} → ItemMeaning I D → Result (Option TypePlaces) StreamError
     → ItemsOrFault I D
 first_information meaning (Ok (Some places)) =
@@ -88,26 +89,26 @@ first_information meaning (Ok (Some places)) =
 first_information meaning (Ok None) = Ok (record { items = record { items = meaning.first; fault = None } })
 first_information meaning (Err fault) = Err fault
 
--- items still to be read are those at these places of the file; where there are no places, all were read
+-- `whole` has the items at these places of the file, which are still to be read; without places, `part` has them all
 abbrev pub IsLeft : {I D : Type 0} → ItemMeaning I D → List ℕ → Option TypePlaces → ItemsOrFault I D
     → ItemsOrFault I D → Type 0
 IsLeft meaning file None part whole = part ≡ whole
 IsLeft meaning file (Some places) part whole = HasItemsAt meaning file places whole
 
--- items are those that every list begins with, where the file has others at these places; where there are no places, they
--- are all there
+-- `part` has only the items that every list begins with if the file has more at these places; without places, it has
+-- all
 abbrev pub BeginsAs : {I D : Type 0} → ItemMeaning I D → List ℕ → Option TypePlaces → ItemsOrFault I D
     → ItemsOrFault I D → Type 0
 BeginsAs meaning file None part whole = part ≡ whole
 BeginsAs meaning file (Some places) part whole =
     (part ≡ first_information meaning (Ok (Some places))) × HasItemsAt meaning file places whole
 
--- where there are places, the file has the items at these
+-- if there are places, `whole` has the items at them
 abbrev pub AreAt : {I D : Type 0} → ItemMeaning I D → List ℕ → Option TypePlaces → ItemsOrFault I D → Type 0
 AreAt meaning file None whole = Unit {0}
 AreAt meaning file (Some places) whole = HasItemsAt meaning file places whole
 
--- types that were read are like those of the file, where they are marked; where there are no places, none were read
+-- the types that were read agree with those of the file where they are marked; without places, none were read
 abbrev pub AreTypesOf : Option TypePlaces → ItemsOrFault TypeIndex TypeData → Option TypesRead → Type 0
 AreTypesOf None whole None = Unit {0}
 AreTypesOf None whole (Some read) = ⊥
@@ -116,26 +117,26 @@ AreTypesOf (Some places) whole (Some read) =
     AreAlike (λ i. i.0) read.types (Ok read.information) whole
     × AreDefinedAlike read.sizes (Ok read.information) whole
 
--- the same of ids
+-- the ids that were read agree with those of the file where they are marked; without places, none were read
 abbrev pub AreIdsOf : Option TypePlaces → ItemsOrFault IdIndex IdData → Option IdsRead → Type 0
 AreIdsOf None whole None = Unit {0}
 AreIdsOf None whole (Some read) = ⊥
 AreIdsOf (Some places) whole None = Unit {0}
 AreIdsOf (Some places) whole (Some read) = AreAlike (λ i. i.0) read.ids (Ok read.information) whole
 
--- all items of a list are those of the file, where they were read
+-- the items of the whole list, which were read at its places, are those of the file; without places, nothing was read
 abbrev pub AreAllOf : {I D : Type 0} → Option TypePlaces → ItemsOrFault I D → Option (ItemInformation I D) → Type 0
 AreAllOf None whole None = Unit {0}
 AreAllOf None whole (Some items) = ⊥
 AreAllOf (Some places) whole None = ⊥
 AreAllOf (Some places) whole (Some items) = whole ≡ Ok items
 
--- items in place of others, where there are some
+-- these items if there are any, otherwise the items of `part`
 abbrev pub all_or : {I D : Type 0} → Option (ItemInformation I D) → ItemsOrFault I D → ItemsOrFault I D
 all_or None part = part
 all_or (Some items) part = Ok items
 
--- what is known with these types, if they were read
+-- what was read, with these types if they were read
 abbrev pub with_types : Known → Option TypesRead → Known
 with_types known None = known
 with_types known (Some read) = record known {
@@ -144,7 +145,7 @@ with_types known (Some read) = record known {
   sizes = read.sizes;
 }
 
--- what is known with these ids, if they were read
+-- what was read, with these ids if they were read
 abbrev pub with_ids : Known → Option IdsRead → Known
 with_ids known None = known
 with_ids known (Some read) = record known {
@@ -152,14 +153,14 @@ with_ids known (Some read) = record known {
   ids = read.ids;
 }
 
--- what is known with these modules, of which those with these marks were read
+-- what was read, with these modules; the marks tell which of them were read
 abbrev pub with_modules : Known → List Bool → List ModuleOrFault → Known
 with_modules known marks modules = record known {
   records = record known.records { module_infos = modules };
   modules = marks;
 }
 
--- records with all types and ids, where these can be read, and all modules
+-- records with all modules, and with all types and ids if these can be read
 abbrev pub with_all : Records → Option (ItemInformation TypeIndex TypeData) → Option (ItemInformation IdIndex IdData)
     → List ModuleOrFault → Records
 with_all records types ids modules = record records {
@@ -168,7 +169,7 @@ with_all records types ids modules = record records {
   module_infos = modules;
 }
 
--- a module was read as its own stream has it, and repaired
+-- a module was read from its own stream, and repaired
 abbrev pub IsReadFrom : List ℕ → MappedFile → List PlaceOrFault → ModuleRead → Type 0
 IsReadFrom file mapped places read =
     read.info ≡ repaired_read (module_of (with_bytes file mapped) (place_at places read.position))
@@ -177,7 +178,7 @@ IsReadFrom file mapped places read =
 abbrev pub HasNames : ModuleRead → Type 0
 HasNames read = separated_from 0 None (symbols_of read.info) ≡ []
 
--- what is known of the module at a position: nothing after the last one
+-- the records of the module at a position; `None` after the last module
 abbrev pub module_in : List ModuleOrFault → ℕ → ModuleOrFault
 module_in modules position = unwrap_or (slice_get modules position) (Ok None)
 
@@ -185,13 +186,13 @@ module_in modules position = unwrap_or (slice_get modules position) (Ok None)
 abbrev pub IsModuleOf : List ModuleOrFault → ModuleRead → Type 0
 IsModuleOf whole read = module_in whole read.position ≡ read.info
 
--- of each module that is marked the same is known in both
+-- both lists have the same records for each marked module
 abbrev pub AreModulesOf : List ModuleOrFault → List Bool → List ModuleOrFault → Type 0
 AreModulesOf whole marks modules = (position : ℕ) → unwrap_or (slice_get marks position) true ≡ true
     → module_in modules position ≡ module_in whole position
 
--- the file is this container, where modules, types and ids stand at these places, and records have everything else of
--- it, and of types and ids what every list begins with
+-- the file is this container, with modules, types and ids at these places. The records have all else of the file; of
+-- types and ids they have what every list begins with
 pub record IsOpened (file : List ℕ) (mapped : MappedFile) (at : List PlaceOrFault) (lists : TypeLists)
     (read : Records) : Type 0 where
   pub container : container file ≡ Ok (with_bytes file mapped)
@@ -202,8 +203,8 @@ pub record IsOpened (file : List ℕ) (mapped : MappedFile) (at : List PlaceOrFa
       (type_information (with_bytes file mapped))
   pub ids : BeginsAs ids file lists.ids.places read.id_information (id_information (with_bytes file mapped))
 
--- the file is this container, where modules, types and ids stand at these places, and what was read is a part of it
--- without what is broken in it
+-- the file is this container, with modules, types and ids at these places. What was read is a part of its repaired
+-- records
 pub record IsReaderOf (file : List ℕ) (mapped : MappedFile) (at : List PlaceOrFault) (lists : TypeLists)
     (known : Known) : Type 0 where
   pub container : container file ≡ Ok (with_bytes file mapped)
@@ -214,17 +215,18 @@ pub record IsReaderOf (file : List ℕ) (mapped : MappedFile) (at : List PlaceOr
       (repaired_items (id_information (with_bytes file mapped)))
   pub part : IsPartOf known (repaired (records (with_bytes file mapped)))
 
--- the same of the file that a source says, where it has this length
+-- what was read is a part of the source's file, if the source has a model of its bytes and these have the right length
 abbrev pub ReadsFile : Option (List ℕ) → MappedFile → List PlaceOrFault → TypeLists → Known → Type 0
 ReadsFile bytes mapped places lists known =
     IfFile bytes mapped.file_length (λ file. IsReaderOf file mapped places lists known)
 
--- the same of a file that was opened
+-- the records are those of the source's file after opening, if the source has a model of its bytes and these have the
+-- right length
 abbrev pub OpensFile : Option (List ℕ) → MappedFile → List PlaceOrFault → TypeLists → Records → Type 0
 OpensFile bytes mapped places lists read =
     IfFile bytes mapped.file_length (λ file. IsOpened file mapped places lists read)
 
--- what is known at first: no module, type or id was read
+-- what is known after opening: no module, type or id was read
 abbrev pub first_known : Records → List PlaceOrFault → TypeLists → Known
 first_known read places lists = record {
   records = read;
@@ -235,12 +237,13 @@ first_known read places lists = record {
   ids = nothing_read lists.ids.places;
 }
 
--- what counts as all is marked as all
+-- if everything counts as read, each part is marked as read
 abbrev pub IsWhole : Known → Type 0
 IsWhole known = known.all ≡ true → known ≡ all_read known.records
 
--- a session that was refused for the file's records was refused for what these are refused for, whatever of public
--- symbols, types and ids can be read, where the source says the file's bytes and it has this length
+-- if opening is refused for the records of the file, then the file's records are refused for the same reason, even if
+-- their public symbols, types and ids can be read. It holds if the source has a model of the file's bytes and these
+-- have the right length
 abbrev pub RefusesFile : {T : Type 0} → Result T SessionError → Option (List ℕ) → ℕ → Type 0
 RefusesFile (Err (session.Refused refusal)) bytes file_length = IfFile bytes file_length (λ file. (whole : Records)
     → records_of file ≡ Ok whole → code_refusal whole ≡ Some (reason_of refusal))
@@ -248,8 +251,8 @@ RefusesFile (Err (session.File error)) bytes file_length = Unit {0}
 RefusesFile (Err (session.Records error)) bytes file_length = Unit {0}
 RefusesFile (Ok opened) bytes file_length = Unit {0}
 
--- what was read of a file is a part of its records without what is broken in them, where the source says the file's
--- bytes and it has this length
+-- what was read is a part of the repaired records of the file, if the source has a model of the file's bytes and these
+-- have the right length
 abbrev pub IsPartOfFile : Known → Option (List ℕ) → ℕ → Type 0
 IsPartOfFile known bytes file_length = IfFile bytes file_length (λ file. (whole : Records) → records_of file ≡ Ok whole
     → IsPartOf known (repaired whole))

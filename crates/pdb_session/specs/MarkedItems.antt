@@ -1,4 +1,4 @@
--- The items of a list that were read: those that are marked, by their positions.
+-- The items of a list that were read: the items with a mark at their position.
 use Rattle.std.specs.Prelude.{◌≡◌, ◌≢◌, ℕ, ◌+◌, Bool, true, false, List, [], ◌∷◌, ◌++◌, slice_get, Some, None}
 use Rattle.pdb_records.specs.declared.types.Item.{Item}
 use Rattle.pdb_records.specs.declared.types.ItemInformation.{ItemInformation}
@@ -9,8 +9,8 @@ use Rattle.pdb_tpi.specs.ItemStreams.{ItemMeaning, TypeList, item_at, item_of}
 use Rattle.pdb_tpi.specs.TypeRecords.{TypeBytes}
 use Rattle.pdb_tpi.specs.TypeLeaves.{types}
 
--- the items of the records that are marked, each by its position, of which the first one is given; a record without a
--- mark is none of them
+-- the items of the marked records, by their positions; `position` is that of the first record. Records after the last
+-- mark aren't marked
 abbrev pub marked_from : {A : Type 0} → (ℕ → TypeBytes → A) → ℕ → List Bool → List TypeBytes → List A
 marked_from item position marks [] = []
 marked_from item position [] (bytes ∷ rest) = []
@@ -18,7 +18,7 @@ marked_from item position (true ∷ marks) (bytes ∷ rest) =
     item position bytes ∷ marked_from item (position + 1) marks rest
 marked_from item position (false ∷ marks) (bytes ∷ rest) = marked_from item (position + 1) marks rest
 
--- the marked items of a list, after those that every list has
+-- the marked items of a list, after the items that every list has
 abbrev pub marked_items : {I D : Type 0} → ItemMeaning I D → TypeList → List Bool → ItemInformation I D
 marked_items meaning list marks = record {
   items = record {
@@ -27,8 +27,7 @@ marked_items meaning list marks = record {
   };
 }
 
--- the types whose size is known are marked, and where such a type is a forward reference, so is each definition of its
--- name
+-- each type whose size is known is marked; if it is a forward reference, each definition of its name is marked too
 pub record AreSettled (list : TypeList) (marks sizes : List Bool) : Type 0 where
   pub marked : (position : ℕ) → slice_get sizes position ≡ Some true → slice_get marks position ≡ Some true
   pub defined : (position : ℕ) (item : Item TypeIndex TypeData) (name : List ℕ)

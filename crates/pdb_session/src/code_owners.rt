@@ -1,4 +1,4 @@
-//! Whose code lies at an address: the module of the contribution over it.
+//! `CodeOwners`: which module owns the code at an address, by section contributions.
 
 ghost use Rattle.std.specs.Prelude.{◌≡◌, IfOk};
 ghost use Rattle.pdb_session.specs.CodeOwners.{address_map_of, contributions_in, headers_of, lacks_owner};
@@ -13,7 +13,7 @@ use std::alloc::{AllocError, Global};
 use std::collections::BTreeSet;
 use std::marker::Model;
 
-/// Where sections are loaded, and which module each byte of them came from.
+/// Where sections are loaded, and which module each byte of their code came from.
 #[derive(Drop)]
 pub struct CodeOwners {
     address_map: AddressMap,
@@ -32,7 +32,7 @@ impl Model for CodeOwners {
 }
 
 impl CodeOwners {
-    /// The owners of the code that these records list. Records that don't list any have none.
+    /// The code owners that these records list. Without section contributions there are none.
     pub fn new(alloc: Global, records: &PDB) -> Result<Self, Error>
         ensures { IfOk result (λ owners. owners ≡ owners_of records.now) }
     {
@@ -42,7 +42,7 @@ impl CodeOwners {
         })
     }
 
-    /// The module whose code lies at an address.
+    /// The module whose contribution contains an address.
     pub fn owner_at(&self, address: u32) -> Option<usize>
         ensures { result ≡ owner_at self.now address }
     {
@@ -53,7 +53,7 @@ impl CodeOwners {
         Some(contribution.module_index)
     }
 
-    /// The modules whose code lies at these addresses.
+    /// The modules whose contributions contain these addresses.
     pub fn owners_at(
         &self,
         alloc: Global,
@@ -68,7 +68,7 @@ impl CodeOwners {
         Ok(modules)
     }
 
-    /// Whether the module whose code lies at an address is still to be read.
+    /// Whether the module that owns the code at an address isn't read yet. `false` if no module owns it.
     pub fn is_lacking(&self, known: &KnownRecords, address: u32) -> bool
         ensures { result ≡ lacks_owner known.now self.now address }
     {
@@ -79,7 +79,7 @@ impl CodeOwners {
     }
 }
 
-// Where sections are loaded; nothing where the records don't say it.
+// Where sections are loaded; empty if the records have no address map.
 fn address_map_of(alloc: Global, records: &PDB) -> Result<AddressMap, AllocError>
     ensures { IfOk result (λ map. map ≡ address_map_of records.now) }
 {
@@ -90,7 +90,7 @@ fn address_map_of(alloc: Global, records: &PDB) -> Result<AddressMap, AllocError
     Ok(AddressMap { sections })
 }
 
-// The contributions of the records, merged.
+// The merged contributions of the records; none if their debug information can't be read.
 fn contributions_of(alloc: Global, records: &PDB) -> Result<ContributionTable, Error>
     ensures { IfOk result (λ table. table ≡ contributions_in records.now) }
 {

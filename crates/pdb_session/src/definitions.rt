@@ -1,4 +1,4 @@
-//! Types that define names, and types whose sizes are settled once all definitions of some names were read.
+//! Finds the types that define given names, and the sizes that are settled once these definitions were read.
 
 ghost use Rattle.std.specs.Prelude.{◌≡◌, ◌≤◌, ◌&&◌, ◌||◌, false, length, slice_get, true, ℕ, IfErr, IfOk, IfSome, OnOk};
 ghost use Rattle.std.specs.Prelude.{Some, unwrap_or};
@@ -14,8 +14,8 @@ use pdb_tpi::{RecordWindow, TypePlaces};
 use std::alloc::Global;
 use std::collections::BTreeSet;
 
-/// Marks the types that define one of these names: classes and unions that go by it and are no forward references.
-/// Marks that are set already stay. Without any names nothing is read.
+/// Marks the types that define one of these names: classes and unions with that name that aren't forward references.
+/// Marks that are set stay set. If `names` is empty, nothing is read.
 pub fn mark_definitions<S: Source>(
     alloc: Global,
     source: &mut S,
@@ -38,7 +38,7 @@ pub fn mark_definitions<S: Source>(
     mark_each(alloc, source, places, names, marks)
 }
 
-// Looks at each type that isn't marked.
+// Checks each type that isn't marked yet.
 fn mark_each<S: Source>(
     alloc: Global,
     source: &mut S,
@@ -62,8 +62,8 @@ fn mark_each<S: Source>(
     Ok(())
 }
 
-/// Which of these sizes the marked types say: those of marked types that are no forward references, and those of marked
-/// forward references that go by one of these names.
+/// Which of the wanted sizes are settled by the marked types. The size of a marked type is settled unless it is a
+/// forward reference. That of a forward reference is settled if its name is one of `names`.
 pub fn settled_sizes<S: Source>(
     alloc: Global,
     source: &mut S,
@@ -125,8 +125,7 @@ fn is_marked<S: Source>(
     }
 }
 
-// Whether the size of the type at a position is wanted, and the type is no forward reference, or goes by one of these
-// names.
+// Whether the size of the type at a position is wanted and settled.
 fn keeps_size<S: Source>(
     alloc: Global,
     source: &mut S,
@@ -157,14 +156,14 @@ fn keeps_size<S: Source>(
     }
 }
 
-// Whether a mark is there and set.
+// Whether the mark at a position is set; `false` after the last mark.
 fn is_set(marks: &[bool], position: usize) -> bool
     ensures { result ≡ unwrap_or (slice_get marks.now position) false }
 {
     marks.get(position).copied().unwrap_or(false)
 }
 
-// Whether a type is a class or a union that goes by one of these names.
+// Whether a type is a class or a union whose name is one of these.
 fn goes_by(item: &Item<TypeIndex, TypeData>, names: &BTreeSet<Vec<u8>>) -> bool
     ensures { result ≡ goes_by names.now item.now }
 {
@@ -175,7 +174,7 @@ fn goes_by(item: &Item<TypeIndex, TypeData>, names: &BTreeSet<Vec<u8>>) -> bool
     }
 }
 
-// Whether a type is no forward reference, or one that goes by one of these names.
+// Whether a type's size is settled: it isn't a forward reference, or its name is one of these.
 fn is_settled(item: &Item<TypeIndex, TypeData>, names: &BTreeSet<Vec<u8>>) -> bool
     ensures { result ≡ is_settled names.now item.now }
 {
@@ -186,14 +185,14 @@ fn is_settled(item: &Item<TypeIndex, TypeData>, names: &BTreeSet<Vec<u8>>) -> bo
     }
 }
 
-// Whether one of these names has these bytes.
+// Whether the set contains a name, compared by its bytes.
 fn has_name(names: &BTreeSet<Vec<u8>>, name: &RawString) -> bool
     ensures { result ≡ has_name names.now name.now }
 {
     names.contains(&name.0)
 }
 
-// The name that a class or a union goes by: its unique name where it has one.
+// The name by which a class or a union is compared: its unique name if it has one.
 fn name_of<'n>(unique_name: &'n Option<RawString>, name: &'n RawString) -> &'n RawString
     ensures { result.now ≡ unwrap_or unique_name.now name.now }
 {

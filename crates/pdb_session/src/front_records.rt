@@ -18,25 +18,26 @@ use pdb_msf::faults::Fault;
 use pdb_records::PDB;
 use std::alloc::Global;
 
-/// The records of a file without its types, ids and modules, and where these are.
+/// The records of a file without its types, ids and modules, and where in the file these are.
 #[derive(Drop)]
 pub struct FrontRecords {
-    /// Where the records of each module are.
+    /// Which stream has the records of each module.
     pub places: Vec<ModulePlace>,
     pub lists: TypeLists,
     pub reach: ReachableTypes,
     pub front: FileFront,
 }
 
-/// What a file says before any of its types, ids and modules is read.
+/// The records of a file before any type, id or module is read.
 #[derive(Drop)]
 pub struct FileFront {
     pub records: PDB,
-    /// Whether the file has names alone, since it was made with `/DEBUG:FASTLINK`: lines and types are in objects.
+    /// Whether the file was linked with `/DEBUG:FASTLINK`: it has only names, and lines and types are in object files.
     pub names_only: bool,
 }
 
-/// The records of a file of this length, of which these streams were read.
+/// Makes the first records from the streams that were read. `file_length` bounds how many bytes of module streams may
+/// be read.
 pub fn read_front_records(
     alloc: Global,
     streams: FrontStreams,

@@ -1,4 +1,4 @@
-//! The streams of a file that are read before any of its modules.
+//! Reads the streams of a file that are needed before any of its modules.
 
 ghost use Rattle.std.specs.Prelude.{◌≡◌, ◌≤◌, IfErr, IfOk, OnOk};
 ghost use Rattle.pdb_container.specs.DebugRecords.{debug_header};
@@ -22,11 +22,11 @@ use std::alloc::Global;
 /// The streams of a file that are read before any of its modules.
 #[derive(Drop)]
 pub struct FrontStreams {
-    /// All but types and ids.
+    /// The streams other than those of types and ids, with their bytes.
     pub excerpt: StreamSubset,
-    /// Where the types start, whose bytes stay in the file.
+    /// Where each type record starts. Their bytes stay in the file.
     pub types: PlacesOrFault,
-    /// The same of ids; `None` of a file without ids.
+    /// Where each id record starts; `None` if the file has no ids.
     pub ids: PlacesOrFault,
 }
 
@@ -94,10 +94,10 @@ fn add_streams<S: Source>(
     Ok(())
 }
 
-// What the info stream and the stream of debug information lead to.
+// The streams that the info stream and the debug information stream name.
 #[derive(Drop)]
 struct NamedByFront {
-    /// The numbers of the streams that they name.
+    /// The numbers of these streams.
     numbers: Vec<u32>,
     has_ids: bool,
 }
@@ -129,8 +129,8 @@ fn named_by_front(alloc: Global, container: &Container<'_>) -> Result<NamedByFro
     })
 }
 
-// The numbers of the streams that debug information names and that are read before any module: of symbols and of
-// sections.
+// The numbers of the streams that the debug information names and that are read before any module: global symbols and
+// section headers.
 #[tactic(auto, unfolding(pdb_container::specs::DebugRecords::debug_header))]
 fn named_by_header(alloc: Global, container: &Container<'_>) -> Result<Vec<u32>, Fault>
     ensures { IfOk result (λ numbers. numbers.items ≡ named_by_header (debug_header container.now)) }

@@ -1,4 +1,4 @@
-//! Types and ids that are read of a file: those that are reached, or all.
+//! Reads types and ids of a file: those that are reachable, or all of them.
 
 ghost use Rattle.std.specs.Prelude.{◌≡◌, length, Some, IfOk, IfSome};
 ghost use Rattle.pdb_records.specs.declared.ids.IdData.{IdData};
@@ -22,9 +22,9 @@ use std::alloc::{AllocError, Global};
 #[derive(Drop)]
 pub struct TypesRead {
     pub information: ItemInformation<TypeIndex, TypeData>,
-    /// Which they are.
+    /// Which types of the file these are.
     pub types: EntriesRead,
-    /// Those of them whose size is known.
+    /// Which of these types have a size that is known.
     pub sizes: EntriesRead,
 }
 
@@ -32,11 +32,11 @@ pub struct TypesRead {
 #[derive(Drop)]
 pub struct IdsRead {
     pub information: ItemInformation<IdIndex, IdData>,
-    /// Which they are.
+    /// Which ids of the file these are.
     pub ids: EntriesRead,
 }
 
-/// Reads the types that are reached, where a list of types can be read.
+/// Reads the reachable types; `None` if the file has no list of types that can be read.
 pub fn read_types<S: Source>(
     alloc: Global,
     source: &mut S,
@@ -53,7 +53,7 @@ pub fn read_types<S: Source>(
     }
 }
 
-// Reads the types that are reached, of those at these places.
+// Reads the reachable types of the list at these places.
 fn read_types_at<S: Source>(
     alloc: Global,
     source: &mut S,
@@ -77,7 +77,7 @@ fn read_types_at<S: Source>(
     })
 }
 
-/// Reads the ids that are reached, where a list of ids can be read.
+/// Reads the reachable ids; `None` if the file has no list of ids that can be read.
 pub fn read_ids<S: Source>(
     alloc: Global,
     source: &mut S,
@@ -94,7 +94,7 @@ pub fn read_ids<S: Source>(
     }
 }
 
-// Reads the ids that are reached, of those at these places.
+// Reads the reachable ids of the list at these places.
 fn read_ids_at<S: Source>(
     alloc: Global,
     source: &mut S,
@@ -116,7 +116,7 @@ fn read_ids_at<S: Source>(
     })
 }
 
-/// Reads all items of a list that can be read.
+/// Reads all items of a list; `None` if there is no list that can be read.
 pub fn read_all_items<I: ItemIndex, S: Source>(
     alloc: Global,
     source: &mut S,
@@ -132,7 +132,7 @@ pub fn read_all_items<I: ItemIndex, S: Source>(
     }
 }
 
-// A mark for each record at these places: those that are set, as far as these reach.
+// Extends marks with unset ones, so that each record of the list has a mark.
 fn marks_of(alloc: Global, places: &TypePlaces, marks: &[bool]) -> Result<Vec<bool>, AllocError>
     ensures { IfOk result (λ all. length all.items ≡ length places.now.starts.items) }
 {

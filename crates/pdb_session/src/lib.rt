@@ -1,10 +1,11 @@
-//! A PDB file that is read as it is asked: of its modules, types and ids what answers about addresses depend on.
+//! Reads a PDB file piece by piece: only the modules, types and ids that answers about addresses depend on.
 //!
-//! A [`PdbSession`] has the records that were read so far. [`PdbSession::read_for`] reads what is still missing for
-//! some addresses; a [`SessionContext`] then answers them, as a context over all records of the file would, without
-//! what is broken in them. That what was read is a part of these records is proved, wherever the source says the bytes
-//! of its file. What finds out which types and ids to read isn't trusted: a check looks whether these name any that
-//! weren't read, and where they do, all is read.
+//! A [`PdbSession`] has the records that were read so far. [`PdbSession::read_for`] reads what is missing for some
+//! addresses. A [`SessionContext`] then gives the same answers as a context over all records of the file after repairs.
+//!
+//! It is proved that the records that were read are a part of all records, for any source that says the bytes of its
+//! file. The code that chooses which types and ids to read isn't trusted: a check looks for references to records that
+//! weren't read. If it finds any, the rest of the file is read.
 #![tactic(auto)]
 
 mod code_owners;

@@ -90,11 +90,13 @@ impl<S: Source + Drop> FileReader<S> {
         ))
     }
 
-    /// Reads the modules at these positions, and the types and ids that their functions name. Everything that is left
-    /// is read where one of them has code without a name, as chunks and jumps, whose function any module may list. What
-    /// is broken in the modules is taken out, and answered.
+    /// Reads the modules at these positions, and the types and ids that their functions name. Broken parts of these
+    /// modules are removed and returned.
     ///
-    /// Where there is no memory, or a range of the file can't be read, nothing counts as read that didn't before.
+    /// Chunks and jumps have no name of their own, and any module may list their function. If one of the modules has
+    /// such code, everything that is left is read.
+    ///
+    /// If memory runs out or a range of the file can't be read, the call fails and marks nothing as read.
     pub fn read_modules(
         &mut self,
         alloc: Global,
@@ -126,10 +128,10 @@ impl<S: Source + Drop> FileReader<S> {
         Ok(repairs)
     }
 
-    /// Reads everything that is left. What is broken in the modules is taken out, and answered of those that were not
-    /// read before.
+    /// Reads everything that is left. Broken parts of the modules are removed. Those of modules that weren't read
+    /// before are returned.
     ///
-    /// Where there is no memory, or a range of the file can't be read, nothing counts as read that didn't before.
+    /// If memory runs out or a range of the file can't be read, the call fails and marks nothing as read.
     pub fn read_all(
         &mut self,
         alloc: Global,
@@ -158,7 +160,7 @@ impl<S: Source + Drop> FileReader<S> {
     }
 }
 
-// Puts the types that were read in place of others, if the list can be read.
+// Replaces the types by those that were read, if the list could be read.
 fn put_types(known: &mut KnownRecords, types: Option<TypesRead>)
     ensures { known.new ≡ with_types known.old types }
 {
@@ -169,7 +171,7 @@ fn put_types(known: &mut KnownRecords, types: Option<TypesRead>)
     }
 }
 
-// Puts the ids that were read in place of others, if the list can be read.
+// Replaces the ids by those that were read, if the list could be read.
 fn put_ids(known: &mut KnownRecords, ids: Option<IdsRead>)
     ensures { known.new ≡ with_ids known.old ids }
 {
@@ -179,7 +181,7 @@ fn put_ids(known: &mut KnownRecords, ids: Option<IdsRead>)
     }
 }
 
-// Puts the modules that were read at their positions, and marks them as read.
+// Stores the modules that were read at their positions, and marks them as read.
 fn put_read_modules(known: &mut KnownRecords, read: Vec<ModuleRead>)
     ensures rest { known.new ≡ with_modules known.old known.new.modules known.new.records.module_infos }
     ensures same { (whole : List ModuleOrFault) → All (IsModuleOf whole) read.items
@@ -189,7 +191,7 @@ fn put_read_modules(known: &mut KnownRecords, read: Vec<ModuleRead>)
     put_modules(&mut known.records.module_infos, &mut known.modules, read);
 }
 
-// Puts everything in place of what was read before, and marks all as read.
+// Replaces everything by what was read, and marks all as read.
 fn put_all(
     alloc: Global,
     known: &mut KnownRecords,
@@ -213,7 +215,7 @@ fn put_all(
     known.ids = no_entries(alloc);
 }
 
-/// Marks of a stream without entries.
+/// The marks for a list without entries.
 pub fn no_entries(alloc: Global) -> EntriesRead
     ensures { result ≡ no_entries }
 {

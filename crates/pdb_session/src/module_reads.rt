@@ -1,4 +1,4 @@
-//! Modules of a file that are read by themselves: their records, as their own streams have them.
+//! Reads modules of a file from their own streams.
 
 ghost use Rattle.std.specs.Prelude.{◌≡◌, ◌≤◌, List, All, false, map, IfErr, IfOk, OnOk};
 ghost use Rattle.pdb_container.specs.DebugRecords.{tabled};
@@ -17,16 +17,17 @@ use pdb_msf::part_of_source;
 use pdb_repairs::{Repair, repair_module_info};
 use std::alloc::{AllocError, Global};
 
-/// A module that was read by itself.
+/// A module that was read from its own stream.
 #[derive(Drop)]
 pub struct ModuleRead {
     /// Its module index.
     pub position: usize,
-    /// Its records without what is broken in them, or why they can't be read.
+    /// Its records after repairs, or why they can't be read.
     pub info: ModuleInfoResult,
 }
 
-/// Reads the modules at these positions, each as its own stream has it. What is broken in them is taken out, and told.
+/// Reads the modules at these positions, each from its own stream. Removes their broken parts, and adds these to
+/// `repairs`.
 pub fn read_modules_at<S: Source>(
     alloc: Global,
     map: &MsfLayout,
@@ -64,14 +65,14 @@ fn read_module_at<S: Source>(
     Ok(ModuleRead { position, info })
 }
 
-// Where the records of the module at a position are.
+// Which stream has the records of the module at a position; none after the last module.
 fn place_at(places: &[ModulePlace], position: usize) -> ModulePlace
     ensures { result ≡ place_at places.now position }
 {
     places.get(position).copied().unwrap_or(Ok(None))
 }
 
-/// Reads the modules at all of these places, each as its own stream has it.
+/// Reads the modules at all of these places, each from its own stream, without repairs.
 pub fn read_modules<S: Source>(
     alloc: Global,
     streams: &MsfLayout,
@@ -89,7 +90,7 @@ pub fn read_modules<S: Source>(
     Ok(infos)
 }
 
-// The records of a module at this place, or why they can't be read. Code apart from its function has no name there.
+// The records of a module, or why they can't be read. Its chunks and jumps have no names yet.
 fn read_module<S: Source>(
     alloc: Global,
     map: &MsfLayout,
@@ -113,7 +114,7 @@ fn read_module<S: Source>(
     }
 }
 
-/// Whether one of these modules has code without a name, whose function any module may list.
+/// Whether one of these modules has chunks or jumps without a name. Their function may be in any module.
 pub fn has_any_unnamed_code(alloc: Global, modules: &[ModuleRead]) -> Result<bool, AllocError>
     ensures { IfOk result (λ has. has ≡ false → All HasNames modules.now) }
 {
@@ -125,7 +126,7 @@ pub fn has_any_unnamed_code(alloc: Global, modules: &[ModuleRead]) -> Result<boo
     Ok(false)
 }
 
-// Whether a module has code without a name.
+// Whether a module has chunks or jumps without a name.
 fn has_code_without_name(alloc: Global, read: &ModuleRead) -> Result<bool, AllocError>
     ensures { IfOk result (λ has. has ≡ false → HasNames read.now) }
 {
@@ -135,7 +136,7 @@ fn has_code_without_name(alloc: Global, read: &ModuleRead) -> Result<bool, Alloc
     }
 }
 
-/// Puts modules at their positions, and marks these.
+/// Stores modules at their positions, and sets their marks.
 pub fn put_modules(modules: &mut [ModuleInfoResult], marks: &mut [bool], read: Vec<ModuleRead>)
     ensures { (whole : List ModuleOrFault) → All (IsModuleOf whole) read.items → AreModulesOf whole marks.old modules.old
         → AreModulesOf whole marks.new modules.new }
@@ -148,8 +149,7 @@ pub fn put_modules(modules: &mut [ModuleInfoResult], marks: &mut [bool], read: V
     }
 }
 
-/// Names code without a name in modules that were all read, in a file of this length: names take no more bytes than it
-/// has.
+/// Names the chunks and jumps of modules that were all read. These names together take at most `file_length` bytes.
 pub fn name_code(
     alloc: Global,
     known: &KnownRecords,
@@ -166,7 +166,7 @@ pub fn name_code(
     }
 }
 
-/// Takes out of modules what is broken in them, and tells it of those that were not read before.
+/// Removes the broken parts of modules. Returns those of modules that weren't read before.
 pub fn repair_modules(
     alloc: Global,
     known: &KnownRecords,

@@ -1,4 +1,4 @@
-//! Which types and ids answers over modules depend on: those that their functions name, with all that these lead to.
+//! `ReachableTypes`: the types and ids that the functions of modules name, and all that these lead to.
 
 ghost use Rattle.std.specs.Prelude.{◌≡◌};
 
@@ -12,7 +12,7 @@ use pdb_tpi::RecordWindow;
 use std::alloc::{AllocError, Global};
 use std::collections::BTreeSet;
 
-/// What is still to be followed: a record of a type, the size of one, or a record of an id, by its position.
+/// A record whose references are still to be followed, by its position: a type, a type's size, or an id.
 #[derive(Clone, Copy)]
 enum Step {
     Type(usize),
@@ -20,21 +20,21 @@ enum Step {
     Id(usize),
 }
 
-/// Which records of the types and of the ids are reached, by their positions.
+/// Marks for the types and ids that are reachable, by their positions.
 #[derive(Drop)]
 pub struct ReachableTypes {
     types: Vec<bool>,
     sizes: Vec<bool>,
     ids: Vec<bool>,
     steps: Vec<Step>,
-    /// The names of the forward references whose size is reached, which stands with another type of that name.
+    /// The names of the forward references whose size is wanted. The size is in the definition of the same name.
     names: BTreeSet<Vec<u8>>,
     type_window: RecordWindow,
     id_window: RecordWindow,
 }
 
 impl ReachableTypes {
-    /// A reach of nothing.
+    /// Marks for these lists, with none set.
     pub fn new(alloc: Global, lists: &TypeLists) -> Result<Self, AllocError> {
         let mut reach = ReachableTypes::over_nothing(alloc);
         reach.types = lists.types.unmarked(alloc)?;
@@ -43,7 +43,7 @@ impl ReachableTypes {
         Ok(reach)
     }
 
-    /// A reach over lists without records.
+    /// Marks for empty lists.
     pub fn over_nothing(alloc: Global) -> Self {
         ReachableTypes {
             types: Vec::new(alloc),
@@ -61,22 +61,22 @@ impl ReachableTypes {
         &self.types
     }
 
-    /// The same of the types whose size is reached.
+    /// A mark for each type whose size is wanted, by its position.
     pub fn sizes(&self) -> &[bool] {
         &self.sizes
     }
 
-    /// The same of ids.
+    /// A mark for each id, by its position.
     pub fn ids(&self) -> &[bool] {
         &self.ids
     }
 
-    /// The names of the forward references whose size is reached.
+    /// The names of the forward references whose size is wanted.
     pub fn names(&self) -> &BTreeSet<Vec<u8>> {
         &self.names
     }
 
-    /// Adds what the names of the functions of these modules depend on.
+    /// Marks the types and ids on which the names of these modules' functions depend.
     pub fn add_modules<S: Source>(
         &mut self,
         alloc: Global,
@@ -136,7 +136,7 @@ impl ReachableTypes {
         Ok(())
     }
 
-    // Follows what is reached to its end. Each record is followed at most twice.
+    // Follows all pending records. Each type is followed at most twice: once for its text and once for its size.
     fn follow_steps<S: Source>(
         &mut self,
         alloc: Global,
@@ -194,7 +194,7 @@ impl ReachableTypes {
         Ok(())
     }
 
-    // The types that a type is printed with, and what has the size of an array's elements.
+    // Adds the types that are printed as parts of a type, and the size of an array's elements.
     fn add_types_of(&mut self, lists: &TypeLists, data: &TypeData) -> Result<(), AllocError> {
         match data {
             TypeData::MemberFunction(function) => {
@@ -219,7 +219,7 @@ impl ReachableTypes {
         }
     }
 
-    // The type whose size a type has, where it is another one's.
+    // Adds the type whose size a type takes over, or the name by which a forward reference's size is found.
     fn add_size_of(
         &mut self,
         alloc: Global,
@@ -246,7 +246,7 @@ impl ReachableTypes {
         Ok(())
     }
 
-    // The types and the ids that an id is printed with.
+    // Adds the types and ids that are printed as parts of an id.
     fn add_types_of_id(&mut self, lists: &TypeLists, data: &IdData) -> Result<(), AllocError> {
         match data {
             IdData::MemberFunction(function) => {
@@ -287,7 +287,7 @@ impl ReachableTypes {
     }
 }
 
-// What a record holds, where it is there and can be read.
+// The content of a record; `None` if it is missing or can't be read.
 fn content_of<I, D>(item: &Option<Item<I, D>>) -> Option<&D> {
     match item {
         Some(
@@ -300,7 +300,7 @@ fn content_of<I, D>(item: &Option<Item<I, D>>) -> Option<&D> {
     }
 }
 
-// The name by which a class or a union is found: the unique one, where it has one.
+// The name by which a class or a union is found: its unique name if it has one.
 fn name_of<'n>(name: &'n RawString, unique_name: &'n Option<RawString>) -> &'n RawString {
     match unique_name {
         Some(unique_name) => unique_name,

@@ -1,18 +1,18 @@
-//! When a session stops reading single modules, and reads the rest of the file at once.
+//! `ReadPlan`: when a session stops reading single modules, and reads the rest of the file at once.
 
-/// How often single modules are read. Each time, the tables of a context are made anew, so the next time all of the
-/// file is read.
+/// How often a session reads single modules. Each time the tables of a context are rebuilt, so after this many times
+/// the rest of the file is read at once.
 const ROUNDS: u32 = 16;
 
-/// A session reads so many modules one by one, and a quarter of all modules if that is more. For others it reads all of
-/// the file.
+/// How many modules a session reads one by one, or a quarter of all modules if that is more. After these it reads the
+/// rest of the file at once.
 const MODULES: usize = 16;
 
-/// Somebody who asks for so many addresses at once will ask for more: a session then reads no more than a sixteenth of
+/// A caller that asks for this many addresses at once will ask for more. The session then reads at most a sixteenth of
 /// all modules one by one.
 const MANY: usize = 2048;
 
-/// How much of a file was read so far, by which a session decides how to go on.
+/// Counts what was read of a file so far, to decide whether to read the rest at once.
 #[derive(Clone, Copy, Drop)]
 pub struct ReadPlan {
     /// How often modules were read.
@@ -22,7 +22,7 @@ pub struct ReadPlan {
 }
 
 impl ReadPlan {
-    /// The plan of a file of which no module was read.
+    /// The plan for a file whose modules are all unread.
     pub fn new() -> Self {
         ReadPlan {
             rounds: 0,
@@ -30,8 +30,8 @@ impl ReadPlan {
         }
     }
 
-    /// Whether all of the file is read now: `addresses` addresses need `wanted` modules that were not read, and the
-    /// file has `modules` modules.
+    /// Whether the rest of the file is to be read at once. The caller's `addresses` addresses need `wanted` modules
+    /// that weren't read, out of `modules` modules in the file.
     pub fn reads_all(&mut self, wanted: usize, addresses: usize, modules: usize) -> bool {
         self.rounds = self.rounds.saturating_add(1);
         self.asked = self.asked.saturating_add(wanted);

@@ -1,4 +1,4 @@
-//! `PdbSession`: the records of a file that were read so far, and what reads the others.
+//! `PdbSession`: the records of a file that were read so far, and the reader of the rest.
 
 ghost use Rattle.std.specs.Prelude.{◌≡◌, IfOk, OnOk, true};
 ghost use Rattle.pdb_container.specs.Front.{SameFront};
@@ -27,14 +27,15 @@ use pdb_repairs::{Repair, repair_records};
 use std::alloc::{AllocError, Global};
 use std::marker::Model;
 
-/// The records of a file that were read so far, without what is broken in them, and what reads the others.
+/// A PDB file that is read as addresses are looked up: the records that were read so far, after repairs, and the reader
+/// of the rest.
 pub struct PdbSession<S: Source> {
     alloc: Global,
     known: KnownRecords,
     owners: CodeOwners,
-    /// Whether no part that was read leads to one that wasn't.
+    /// Whether no record that was read refers to one that wasn't.
     is_closed: bool,
-    /// What reads the file; `None` of records that were all there at first.
+    /// Reads the file; `None` if the records were complete from the start.
     reader: Option<FileReader<S>>,
     plan: ReadPlan,
     untold: UntoldRepairs,
@@ -54,7 +55,7 @@ impl<S: Source + Drop> Drop for PdbSession<S> {
     }
 }
 
-// Clauses see a session as what was read, and the file that it is read from, where its source says that.
+// Contracts see a session as the records that were read, and the bytes of the file if its source says them.
 impl<S: Source> Model for PdbSession<S> {
     ghost use Rattle.std.specs.Prelude.{◌≡◌, IfSome, None, true};
     ghost use Rattle.std.specs.Option.{option_and_then, option_map_or};
@@ -84,20 +85,20 @@ impl<S: Source> Model for PdbSession<S> {
 #[derive(Drop)]
 pub struct Opened<S: Source> {
     pub session: PdbSession<S>,
-    /// Whether the file has names alone, since it was made with `/DEBUG:FASTLINK`: lines and types are in objects.
+    /// Whether the file was linked with `/DEBUG:FASTLINK`: it has only names, and lines and types are in object files.
     pub names_only: bool,
-    /// What was broken, and was taken out.
+    /// The broken parts that were removed from the records.
     pub repairs: Vec<Repair>,
 }
 
 impl<S: Source + Drop> PdbSession<S> {
-    /// A session over a PDB file of this length, of which everything is read but types, ids and modules. What is broken
-    /// is taken out.
+    /// Opens a session over a PDB file of this length. It reads everything except types, ids and modules, and removes
+    /// broken parts.
     ///
     /// # Errors
     ///
-    /// [`SessionError::File`] where the file is no PDB file that can be read, or a range of it can't be, and
-    /// [`SessionError::Refused`] where nothing can be answered over its records.
+    /// [`SessionError::File`] if the file isn't a PDB file that can be read, or a range of it can't be read.
+    /// [`SessionError::Refused`] if nothing can be answered over its records.
     pub fn open(alloc: Global, source: S, file_length: usize) -> Result<Opened<S>, SessionError>
         ensures bytes { IfOk result (λ opened. opened.session.bytes ≡ S.bytes source) }
         ensures length { IfOk result (λ opened. opened.session.file_length ≡ file_length) }
@@ -107,7 +108,7 @@ impl<S: Source + Drop> PdbSession<S> {
         Self::over_file(alloc, reader, front)
     }
 
-    // A session over a file of which everything was read but types, ids and modules.
+    // A session over a file of which everything except types, ids and modules was read.
     fn over_file(
         alloc: Global,
         reader: FileReader<S>,
@@ -137,7 +138,7 @@ impl<S: Source + Drop> PdbSession<S> {
         })
     }
 
-    // A session over records of which modules, types and ids are still to be read.
+    // A session over repaired records, with modules, types and ids still to be read.
     fn over_front(alloc: Global, records: PDB, reader: FileReader<S>) -> Result<Self, Error>
         requires file { ReadsFile (S.bytes reader.source) reader.map reader.places.items reader.lists
             (first_known records reader.places.items reader.lists) }
@@ -168,7 +169,7 @@ impl<S: Source + Drop> PdbSession<S> {
         })
     }
 
-    /// A session over records that are all there. What is broken is taken out of them.
+    /// A session over complete records. Removes their broken parts.
     pub fn over_records(alloc: Global, records: PDB) -> Result<Opened<S>, Error>
         ensures answer { IfOk result (λ opened. opened.session.known ≡ all_read (repaired records)) }
         ensures repairs { IfOk result (λ opened. opened.repairs.items ≡ repairs_of records) }
@@ -206,14 +207,14 @@ impl<S: Source + Drop> PdbSession<S> {
         &self.known.records
     }
 
-    /// Whether nothing that was read leads to something that wasn't.
+    /// Whether no record that was read refers to one that wasn't.
     pub fn is_closed(&self) -> bool
         ensures { result ≡ is_strictly_closed self.now.known }
     {
         self.is_closed
     }
 
-    /// Gives out what was read. Nothing more can be read then.
+    /// Returns the records that were read, and which they are. The rest of the file can't be read after that.
     pub fn into_known(self) -> KnownRecords
         ensures answer { result ≡ self.known }
         ensures file { IsPartOfFile result self.bytes self.file_length }
@@ -230,14 +231,16 @@ impl<S: Source + Drop> PdbSession<S> {
         known
     }
 
-    /// Reads what is missing for answers at these addresses, relative to where the program is loaded. What is broken in
-    /// the modules that are read is taken out. Of the modules whose code lies at these addresses it is answered, once:
-    /// where more modules were read, what is broken in these is answered when an address in their code is asked for.
+    /// Reads what is missing for answers at these addresses, relative to where the program is loaded. Broken parts of
+    /// the modules that are read are removed.
+    ///
+    /// Returns the broken parts of the modules that own the code at these addresses. Each part is returned once. If
+    /// more modules were read, their broken parts are returned when an address in their code is asked for.
     ///
     /// # Errors
     ///
-    /// [`SourceError::Unreadable`] where a range of the file can't be read, and [`SourceError::OutOfMemory`]. The same
-    /// addresses may be asked for again.
+    /// [`SourceError::Unreadable`] if a range of the file can't be read, and [`SourceError::OutOfMemory`]. The call can
+    /// be repeated with the same addresses.
     pub fn read_for(&mut self, addresses: &[u32]) -> Result<Vec<Repair>, SourceError>
         ensures enough { OnOk result (needs_none self.new.known addresses.now ≡ true) }
         ensures front { SameFront self.old.known.records self.new.known.records }
@@ -248,7 +251,7 @@ impl<S: Source + Drop> PdbSession<S> {
         Ok(self.untold.take_at(self.alloc, &self.owners, addresses)?)
     }
 
-    /// Reads everything that is left, and answers what was broken in the modules and wasn't answered yet.
+    /// Reads everything that is left. Returns the broken parts of the modules that no call returned before.
     ///
     /// # Errors
     ///
@@ -262,7 +265,7 @@ impl<S: Source + Drop> PdbSession<S> {
         Ok(self.untold.take_all(self.alloc))
     }
 
-    // Reads everything that is left, unless what was read is enough for answers at these addresses.
+    // Reads everything that is left, unless the records that were read are enough for answers at these addresses.
     fn read_rest_for(&mut self, addresses: &[u32]) -> Result<(), SourceError>
         ensures enough { OnOk result (needs_none self.new.known addresses.now ≡ true) }
         ensures front { SameFront self.old.known.records self.new.known.records }
@@ -294,12 +297,11 @@ impl<S: Source + Drop> PdbSession<S> {
         Ok(self.untold.add(&read?)?)
     }
 
-    /// Lends the records that were read so far to a context. They are a part of all records of the file, without what
-    /// is broken in these.
+    /// Lends the records that were read so far to contexts. They are a part of the file's repaired records.
     ///
     /// # Errors
     ///
-    /// [`Error::PdbError`] of the first stream that failed of those that a context can't do without.
+    /// [`Error::PdbError`] with the error of the first stream that a context can't do without and that can't be read.
     pub fn data(&self) -> Result<SessionData<'_>, Error>
         ensures answer { IfOk result (λ lent. lent ≡ self.now.known) }
         ensures file { IfOk result (λ lent. IsPartOfFile lent self.now.bytes self.now.file_length) }
@@ -308,7 +310,7 @@ impl<S: Source + Drop> PdbSession<S> {
         SessionData::new(self.alloc, &self.known, &self.owners, self.is_closed)
     }
 
-    // Reads the modules whose code lies at these addresses, or everything where that is likely to be wanted.
+    // Reads the modules that own the code at these addresses, or the rest of the file if the plan says so.
     fn read_owners(&mut self, addresses: &[u32]) -> Result<(), SourceError>
         ensures front { SameFront self.old.known.records self.new.known.records }
         ensures file { SameFile self.old self.new }
@@ -334,7 +336,7 @@ impl<S: Source + Drop> PdbSession<S> {
         Ok(self.untold.add(&read?)?)
     }
 
-    // The modules whose code lies at these addresses and that were not read, ascending, each once.
+    // The unread modules that own the code at these addresses, in ascending order, each once.
     fn lacking_owners(&self, addresses: &[u32]) -> Result<Vec<usize>, AllocError> {
         let mut wanted = Vec::new(self.alloc);
         for &address in addresses {
@@ -350,7 +352,7 @@ impl<S: Source + Drop> PdbSession<S> {
         Ok(wanted)
     }
 
-    // Whether what was read is enough for answers at all of these addresses.
+    // Whether the records that were read are enough for answers at all of these addresses.
     fn has_enough(&self, addresses: &[u32]) -> bool
         ensures { result ≡ needs_none self.now.known addresses.now }
     {
@@ -362,7 +364,7 @@ impl<S: Source + Drop> PdbSession<S> {
         true
     }
 
-    // Whether something is still to be read for the answer at an address.
+    // Whether the answer at an address needs records that weren't read.
     fn needs(&self, address: u32) -> bool
         ensures { result ≡ needs self.now.known address }
     {
@@ -370,7 +372,7 @@ impl<S: Source + Drop> PdbSession<S> {
         if is_closed { self.lacks(address) } else { true }
     }
 
-    // Whether the module whose code lies at an address is still to be read.
+    // Whether the module that owns the code at an address isn't read yet.
     fn lacks(&self, address: u32) -> bool
         ensures { result ≡ lacks_owner self.now.known (owners_of self.now.known.records) address }
     {

@@ -1,4 +1,4 @@
-//! Answers over what was read of a file, each as over all of its records.
+//! Answers over the records that were read, each equal to the answer over all records of the file.
 
 ghost use Rattle.std.specs.Prelude.{◌≡◌, Err, Ok, IfNone, IfOk, IfSome, OnOk, false, true};
 ghost use Rattle.pdb_errors.specs.Outcomes.{Gives, Refuses};
@@ -21,21 +21,21 @@ use std::marker::Model;
 /// Why a question about an address has no answer.
 #[derive(Debug, Drop, thiserror::Error)]
 pub enum QuestionError {
-    /// Something that the answer depends on was not read: [`PdbSession::read_for`](crate::PdbSession::read_for) reads
-    /// it.
+    /// The answer depends on records that weren't read: [`PdbSession::read_for`](crate::PdbSession::read_for) reads
+    /// them.
     #[error("not all of the file was read")]
     NotRead,
-    /// The records that the answer depends on are broken, or there was no memory.
+    /// The records that the answer depends on are broken, or memory ran out.
     #[error("{0}")]
     Records(Error),
 }
 
-/// What was read of a file, lent to contexts.
+/// The records of a session that were read so far, lent to contexts.
 pub struct SessionData<'s> {
     provider: ContextPdbData<'s>,
     known: &'s KnownRecords,
     owners: &'s CodeOwners,
-    /// Whether no part that was read leads to one that wasn't.
+    /// Whether no record that was read refers to one that wasn't.
     is_closed: bool,
 }
 
@@ -68,7 +68,7 @@ impl<'s> Model for SessionData<'s> {
 }
 
 impl<'s> SessionData<'s> {
-    // What was read, with the owners of its code.
+    // Lends the records that were read, and the owners of their code.
     pub(crate) fn new(
         alloc: Global,
         known: &'s KnownRecords,
@@ -88,7 +88,7 @@ impl<'s> SessionData<'s> {
         })
     }
 
-    /// Whether something is still to be read for the answer at an address.
+    /// Whether the answer at an address needs records that weren't read.
     pub fn needs(&self, address: u32) -> bool
         ensures { result ≡ needs self.now address }
     {
@@ -122,11 +122,12 @@ impl<'s> SessionData<'s> {
         }
     }
 
-    /// A context over what was read, whose names are printed with these flags.
+    /// A context over the records that were read. It prints names with these flags.
     ///
     /// # Errors
     ///
-    /// Those of [`ContextPdbData::make_context_with_formatter_flags`]. They are those of a context over all records.
+    /// Those of [`ContextPdbData::make_context_with_formatter_flags`], and the same that a context over all records
+    /// would give.
     pub fn context(&self, flags: TypeFormatterFlags) -> Result<SessionContext<'_, 's>, Error>
         ensures answer { Gives (λ c. c.state.inputs) result (context_of flags self.now.records) }
         ensures known { IfOk result (λ c. c.known ≡ self.now) }
@@ -140,8 +141,8 @@ impl<'s> SessionData<'s> {
     }
 }
 
-/// A context over what was read of a file. It answers at an address once everything was read that the answer depends
-/// on, and then as a context over all records.
+/// A context over the records that were read. Once everything is read on which the answer at an address depends, it
+/// gives the same answer as a context over all records.
 pub struct SessionContext<'a, 's> {
     pub(crate) context: Context<'a, ContextPdbData<'s>>,
     pub(crate) part: &'a SessionData<'s>,
@@ -171,21 +172,21 @@ impl<'a, 's> Model for SessionContext<'a, 's> {
 }
 
 impl<'a, 's> SessionContext<'a, 's> {
-    /// Whether something is still to be read for the answer at an address.
+    /// Whether the answer at an address needs records that weren't read.
     pub fn needs(&self, address: u32) -> bool
         ensures { result ≡ needs self.now.known address }
     {
         self.part.needs(address)
     }
 
-    /// The function in whose code an address lies, with its addresses and its name but no lines, as
-    /// [`Context::find_named_function`](pdb_addr2line::Context::find_named_function) answers it over all records of the
-    /// file. A function whose signature can't be printed goes by its symbol's name.
+    /// The function that contains an address, with its addresses and its name but no lines. The answer is that of
+    /// [`Context::find_named_function`](pdb_addr2line::Context::find_named_function) over all records of the file. A
+    /// function whose signature can't be printed gets its symbol's name.
     ///
     /// # Errors
     ///
-    /// [`QuestionError::NotRead`] where something is still to be read for the answer, and `OutOfMemory` where memory
-    /// runs out.
+    /// [`QuestionError::NotRead`] if the answer depends on records that weren't read, and `OutOfMemory` if memory runs
+    /// out.
     pub fn find_function(&mut self, address: u32) -> Result<Option<Function>, QuestionError>
         ensures not_read { needs self.old.known address ≡ true → result ≡ Err QuestionError.NotRead }
         ensures answer { needs self.old.known address ≡ false
@@ -208,13 +209,13 @@ impl<'a, 's> SessionContext<'a, 's> {
         Ok(found)
     }
 
-    /// The functions in whose code an address lies, from inside to outside, as
-    /// [`Context::find_named_frames`](pdb_addr2line::Context::find_named_frames) answers them over all records of the
-    /// file. The last one goes by its symbol's name where its signature can't be printed.
+    /// The frames at an address, from the innermost inlined function to the function that contains it. The answer is
+    /// that of [`Context::find_named_frames`](pdb_addr2line::Context::find_named_frames) over all records of the file.
+    /// If the signature of the containing function can't be printed, it gets its symbol's name.
     ///
     /// # Errors
     ///
-    /// [`QuestionError::NotRead`] where something is still to be read for the answer, and else
+    /// [`QuestionError::NotRead`] if the answer depends on records that weren't read. Otherwise
     /// [`QuestionError::Records`] with the errors of `Context::find_frames`.
     pub fn find_frames(&mut self, address: u32) -> Result<Option<FunctionFrames<'a>>, QuestionError>
         ensures not_read { needs self.old.known address ≡ true → result ≡ Err QuestionError.NotRead }
@@ -240,7 +241,7 @@ impl<'a, 's> SessionContext<'a, 's> {
         Ok(found)
     }
 
-    /// Gives the memory back of what was found so far. Every answer is as before.
+    /// Frees the memory of all cached results. Answers stay the same.
     pub fn clear_caches(&mut self)
         ensures unchanged { self.new ≡ self.old }
     {

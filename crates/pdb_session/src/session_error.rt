@@ -7,13 +7,13 @@ use std::alloc::AllocError;
 /// Why no session can be opened over a file.
 #[derive(Debug, Drop, thiserror::Error)]
 pub enum SessionError {
-    /// The file is no PDB file that can be read, a range of it can't be, or there was no memory.
+    /// The file isn't a PDB file that can be read, a range of it can't be read, or memory ran out.
     #[error("{0}")]
     File(OpenError),
     /// Nothing can be answered over the file's records.
     #[error("{0}")]
     Refused(PdbFileError),
-    /// The records can't be searched.
+    /// No lookup tables can be made from the records, or memory ran out.
     #[error("{0}")]
     Records(Error),
 }

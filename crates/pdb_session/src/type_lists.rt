@@ -1,4 +1,4 @@
-//! The lists of types and of ids of a PDB file, and marks of their records.
+//! The lists of types and of ids of a PDB file, and marks for their records.
 
 ghost use Rattle.std.specs.Prelude.{◌≡◌, ◌≤◌, length, None, IfErr, IfOk, IfSome, IsOkAnd};
 ghost use Rattle.std.specs.Result.{result_unwrap_or};
@@ -16,17 +16,18 @@ use pdb_records::{Item, ItemInformation, Reading, StreamError};
 use pdb_tpi::{ItemIndex, RecordWindow, TypePlaces};
 use std::alloc::{AllocError, Global};
 
-/// What a file has of types, or of ids: where their records start, if there are any, or why they can't be read.
+/// Where the records of a file's types or ids start; `None` if it has none; or why they can't be read.
 pub type PlacesOrFault = Result<Option<TypePlaces>, StreamError>;
 
-/// A list of types or of ids of a file: where its records start, where it can be read and some of it is left to read.
+/// A list of types or of ids of a file. `places` says where its records start; it is `None` if the list can't be read,
+/// or nothing of it is left to read.
 #[derive(Drop)]
 pub struct ItemList {
     pub places: Option<TypePlaces>,
 }
 
 impl ItemList {
-    /// This list.
+    /// The list at these places; one without places if it can't be read.
     pub fn new(places: PlacesOrFault) -> Self
         ensures { result.places ≡ result_unwrap_or places None }
     {
@@ -35,7 +36,7 @@ impl ItemList {
         }
     }
 
-    /// The item at a position of the list, read through a window.
+    /// Reads the item at a position of the list. The window caches bytes between calls.
     pub fn item_at<I: ItemIndex, S: Source>(
         &self,
         alloc: Global,
@@ -51,7 +52,7 @@ impl ItemList {
         }
     }
 
-    /// A mark for each record.
+    /// A mark for each record, with none set.
     pub fn unmarked(&self, alloc: Global) -> Result<Vec<bool>, AllocError>
         ensures { IfOk result (λ marks. marks.items ≡ (nothing_read self.now.places).read) }
     {
@@ -64,7 +65,7 @@ impl ItemList {
         Ok(marks)
     }
 
-    /// Marks of the records of the list, none of which was read.
+    /// Marks for the records of the list, from its first index on, with none set.
     pub fn nothing_read(&self, alloc: Global) -> Result<EntriesRead, AllocError>
         ensures { IfOk result (λ entries. entries ≡ nothing_read self.now.places) }
     {
@@ -78,7 +79,7 @@ impl ItemList {
         })
     }
 
-    /// The position at which the record of an index would stand.
+    /// The position of the record with this index. It may be after the end of the list.
     pub fn position_of(&self, index: u32) -> Option<usize> {
         match &self.places {
             Some(places) => Some(index.checked_sub(places.first())? as usize),
@@ -94,7 +95,7 @@ pub struct TypeLists {
     pub ids: ItemList,
 }
 
-/// The list of types that the stream in these blocks is.
+/// Finds the types in the stream that consists of these blocks.
 pub fn type_list<S: Source>(
     alloc: Global,
     source: &mut S,
@@ -117,8 +118,7 @@ pub fn type_list<S: Source>(
     }
 }
 
-/// The list of ids that the stream in these blocks is. A file whose stream of ids is empty has none, as one without
-/// that stream.
+/// Finds the ids in the stream that consists of these blocks. A file with an empty or missing stream of ids has none.
 pub fn id_list<S: Source>(
     alloc: Global,
     source: &mut S,
@@ -140,7 +140,7 @@ pub fn id_list<S: Source>(
     }
 }
 
-/// Sets a mark. Answers whether it was not set.
+/// Sets the mark at a position. Returns whether it is there and was not set before.
 pub fn mark(marks: &mut [bool], position: usize) -> bool {
     match marks.get_mut(position) {
         Some(mark) if !*mark => {
@@ -151,7 +151,7 @@ pub fn mark(marks: &mut [bool], position: usize) -> bool {
     }
 }
 
-/// The items that every list has in front of those of a stream, and why those of this list end early, or can't be read.
+/// The items with which every list begins, before those of its stream. Their `fault` says why the list ends early.
 pub fn first_items<I: ItemIndex>(
     alloc: Global,
     list: &PlacesOrFault,
@@ -169,7 +169,7 @@ pub fn first_items<I: ItemIndex>(
     }))
 }
 
-/// The items of a list that are marked, with those that every list has in front of them.
+/// Reads the marked items of a list. Before them come the items with which every list begins.
 pub fn marked_items<I: ItemIndex, S: Source>(
     alloc: Global,
     source: &mut S,

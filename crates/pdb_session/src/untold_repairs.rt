@@ -1,30 +1,30 @@
-//! What was broken in modules that were read, until it is told: when an address in the module's code is first asked for.
+//! `UntoldRepairs`: repairs of modules, kept until an address in the module's code is first asked for.
 
 use crate::code_owners::CodeOwners;
 use pdb_repairs::Repair;
 use std::alloc::{AllocError, Global};
 use std::collections::BTreeSet;
 
-/// What was broken in modules that were read, and wasn't told yet: one module after the other.
+/// The repairs of modules that no caller has received yet, module by module.
 #[derive(Drop)]
 pub struct UntoldRepairs {
     repairs: Vec<Repair>,
 }
 
 impl UntoldRepairs {
-    /// Nothing.
+    /// No repairs.
     pub fn new(alloc: Global) -> Self {
         UntoldRepairs {
             repairs: Vec::new(alloc),
         }
     }
 
-    /// Adds what was broken in other modules.
+    /// Adds the repairs of other modules.
     pub fn add(&mut self, repairs: &[Repair]) -> Result<(), AllocError> {
         self.repairs.extend_from_slice(repairs)
     }
 
-    /// What was broken in the modules whose code lies at these addresses. It counts as told from now on.
+    /// Removes and returns the repairs of the modules that own the code at these addresses.
     pub fn take_at(
         &mut self,
         alloc: Global,
@@ -48,13 +48,13 @@ impl UntoldRepairs {
         Ok(told)
     }
 
-    /// All that wasn't told. It counts as told from now on.
+    /// Removes and returns all repairs.
     pub fn take_all(&mut self, alloc: Global) -> Vec<Repair> {
         std::mem::replace(&mut self.repairs, Vec::new(alloc))
     }
 }
 
-// Whether a part is of one of these modules.
+// Whether a repair belongs to one of these modules.
 fn is_of_one(modules: &BTreeSet<usize>, repair: Repair) -> bool {
     match repair {
         Repair::GlobalSymbols(_)

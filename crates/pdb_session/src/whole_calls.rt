@@ -1,4 +1,4 @@
-//! Answers that depend on all records of a file: the records themselves, where functions start, and lists of calls.
+//! Calls that need all records of a file: the records themselves, where functions start, and lists of calls.
 
 ghost use Rattle.std.specs.Prelude.{◌≡◌, Err, IfNone, IfSome, false, true};
 ghost use Rattle.pdb_session.specs.Session.{EndsCalls, GivesNextStart, GivesStarts};
@@ -9,7 +9,7 @@ use pdb_addr2line::{Answer, Call};
 use pdb_records::PDB;
 
 impl<'a> SessionContext<'a, '_> {
-    /// The records, once all were read.
+    /// All records, or `None` until they are read.
     pub fn all_records(&self) -> Option<&PDB>
         ensures records { IfSome result (λ records. records.now ≡ self.now.known.records) }
         ensures all { IfSome result (λ _. self.now.known.all ≡ true) }
@@ -18,12 +18,12 @@ impl<'a> SessionContext<'a, '_> {
         self.part.all_records()
     }
 
-    /// Where functions start, ascending and each once, once all records were read.
+    /// The addresses at which functions start, ascending and each once.
     ///
     /// # Errors
     ///
-    /// [`QuestionError::NotRead`] where some records were not read:
-    /// [`PdbSession::read_all`](crate::PdbSession::read_all) reads them. `OutOfMemory` where memory runs out.
+    /// [`QuestionError::NotRead`] if some records weren't read: [`PdbSession::read_all`](crate::PdbSession::read_all)
+    /// reads them. `OutOfMemory` if memory runs out.
     pub fn start_addresses(&mut self) -> Result<Vec<u32>, QuestionError>
         ensures not_read { self.old.known.all ≡ false → result ≡ Err NotRead }
         ensures answer { self.old.known.all ≡ true → GivesStarts result self.old.state.inputs }
@@ -38,7 +38,8 @@ impl<'a> SessionContext<'a, '_> {
         }
     }
 
-    /// The first of the [start addresses](SessionContext::start_addresses) that isn't below an address, if there is one.
+    /// The first of the [start addresses](SessionContext::start_addresses) that is at or above an address, if there is
+    /// one.
     ///
     /// # Errors
     ///
@@ -58,14 +59,13 @@ impl<'a> SessionContext<'a, '_> {
         Ok(start)
     }
 
-    /// Answers calls, one after the other, and appends an answer for each, as
-    /// [`Context::run_calls`](pdb_addr2line::Context::run_calls) does, once all records were read.
+    /// Answers calls in turn, and appends an answer for each, as
+    /// [`Context::run_calls`](pdb_addr2line::Context::run_calls) does.
     ///
     /// # Errors
     ///
-    /// [`QuestionError::NotRead`] where some records were not read, and then no call is answered. `OutOfMemory` where
-    /// memory runs out: the list is then longer by the answers of the calls before the one for which there was no
-    /// memory.
+    /// [`QuestionError::NotRead`] if some records weren't read; then no call is answered. `OutOfMemory` if memory runs
+    /// out; then the answers to the calls before that one were appended.
     pub fn run_calls(
         &mut self,
         calls: &[Call<'_>],

@@ -1,4 +1,4 @@
--- A small symbol file, and what it says.
+-- A small symbol file, and its records.
 use Rattle.std.specs.Prelude.{ℕ, List, [], ◌∷◌, ◌++◌, codes, Some}
 use Rattle.pdb_breakpad.specs.ShownFrames.{ShownFrame}
 use Rattle.pdb_symbol_file_laws.specs.SymbolTextReader.{SymbolLine, File, InlineOrigin, Func, Public, Inline, CodeLine}
@@ -19,7 +19,7 @@ small_file =
     ++ codes "1012 18 13 0\n"
     ++ codes "PUBLIC 2000 0 exit\n"
 
--- its lines one by one
+-- the records of the small file, line by line
 abbrev pub small_records : List SymbolLine
 small_records =
     OtherLine
@@ -35,7 +35,7 @@ small_records =
     ∷ Public 0x2000 (codes "exit")
     ∷ []
 
--- the frames in the inlined body, from outside to inside
+-- the frames at an address in the small file's inlined body, from outside to inside
 abbrev pub small_frames : List ShownFrame
 small_frames =
     record { function = codes "main"; place = Some (record { file = codes "d:\\small program\\main.c"; line = 12 }) }

@@ -1,4 +1,4 @@
--- The records of a symbol file, as a reader of its text is to find them.
+-- The records that a reader is to find in a symbol file.
 use Rattle.std.specs.Prelude.{ℕ, ◌+◌, ◌==◌, ◌||◌, List, [], ◌∷◌, ◌++◌, map, Option, Some, None, if◌then◌else◌}
 use Rattle.std.specs.Str.{chars, encode_utf8_all}
 use Rattle.pdb_tables.specs.InOrder.{in_order}
@@ -7,7 +7,7 @@ use Rattle.pdb_breakpad.specs.FunctionTexts.{inline_before, inline_records_from,
 use Rattle.pdb_breakpad.specs.ShownFrames.{own_name}
 use Rattle.pdb_symbol_file_laws.specs.SymbolTextReader.{SymbolLine, File, InlineOrigin, Func, Public, Inline, CodeLine}
 
--- a character of a name that stands on one line: a space in place of a line break
+-- a character of a name on one line: a line break becomes a space
 abbrev pub without_break : ℕ → ℕ
 without_break c = if (c == 10) || (c == 13) then 32 else c
 
@@ -15,7 +15,7 @@ without_break c = if (c == 10) || (c == 13) then 32 else c
 unfoldable pub on_one_line : List ℕ → List ℕ
 on_one_line name = encode_utf8_all (map without_break (chars name))
 
--- the records of names by their numbers, of which the first has this one
+-- the records of names by their numbers; the first name has this number
 abbrev pub numbered : (ℕ → List ℕ → SymbolLine) → ℕ → List (List ℕ) → List SymbolLine
 numbered kind number [] = []
 numbered kind number (name ∷ names) = kind number (on_one_line name) ∷ numbered kind (number + 1) names
@@ -24,7 +24,7 @@ numbered kind number (name ∷ names) = kind number (on_one_line name) ∷ numbe
 abbrev pub names_read : Numbers → List SymbolLine
 names_read numbers = numbered File 0 numbers.files ++ numbered InlineOrigin 0 numbers.origins
 
--- the record of a function: one whose end isn't known has no size
+-- the record of a function; one with an unknown end has no size
 abbrev pub head_read : Option ℕ → ℕ → ℕ → List ℕ → SymbolLine
 head_read (Some end) start last name = Func start (size_between start last) name
 head_read None start last name = Public start name
@@ -39,7 +39,7 @@ inline_read inlined =
 abbrev pub line_read : Span SourceLocation → SymbolLine
 line_read span = CodeLine span.start (size_between span.start span.last) span.content.line span.content.file
 
--- the records of a function: its own, those of its inlined calls by where they begin, and those of its lines
+-- the records of a function: its own, those of its inlined calls sorted by start, and those of its lines
 abbrev pub function_read : FunctionRecords → List SymbolLine
 function_read records =
     head_read records.found.end_rva records.start records.last (on_one_line (own_name records.found.frames))

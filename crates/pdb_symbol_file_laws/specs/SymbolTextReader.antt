@@ -1,28 +1,28 @@
--- A plain reader of the text of a Breakpad symbol file: line by line, and each line by its words. It knows nothing of
--- how the text was written.
+-- A plain reader of the text of a Breakpad symbol file: line by line, and each line by its words. Its definition
+-- doesn't depend on how the text is written.
 use Rattle.std.specs.Prelude.{ℕ, List, [], ◌∷◌, map, Bool, true, false, ◌&&◌, nat_lt, ◌==◌, codes, if◌then◌else◌}
 use Rattle.std.specs.Char.{digit_value}
 use Rattle.std.specs.Str.{bytes_eq}
 use Rattle.std.specs.Str.Parse.{digits_value}
 
--- what a line says
+-- the record of a line
 pub data SymbolLine : Type 0 where
-  -- a source file has a number
+  -- the number of a source file
   File : (number : ℕ) (name : List ℕ) → SymbolLine
-  -- the name of an inlined function has a number
+  -- the number of an inlined function's name
   InlineOrigin : (number : ℕ) (name : List ℕ) → SymbolLine
-  -- a function lies over so many addresses
+  -- a function from `start` on, with `size` addresses
   Func : (start size : ℕ) (name : List ℕ) → SymbolLine
-  -- a function begins at an address
+  -- a function of which only the start is known
   Public : (start : ℕ) (name : List ℕ) → SymbolLine
-  -- a call from this line of a file is inlined, which has so many calls outside of it, of the function with a number
+  -- an inlined call from this line of a file, with `level` calls outside it, of the function with the number `origin`
   Inline : (level line file origin start size : ℕ) → SymbolLine
-  -- code is from this line of a file
+  -- code from this line of a file
   CodeLine : (start size line file : ℕ) → SymbolLine
-  -- none of all this
+  -- a line with another record
   OtherLine : SymbolLine
 
--- a byte in front of the first of some lines, or in a line of its own where there is none
+-- lines with one more byte at their start; without lines it is a line of its own
 abbrev pub in_front_of : ℕ → List (List ℕ) → List (List ℕ)
 in_front_of byte [] = (byte ∷ []) ∷ []
 in_front_of byte (line ∷ lines) = (byte ∷ line) ∷ lines
@@ -32,12 +32,12 @@ abbrev pub lines : List ℕ → List (List ℕ)
 lines [] = []
 lines (byte ∷ bytes) = if byte == 10 then [] ∷ lines bytes else in_front_of byte (lines bytes)
 
--- the first word of a line: what stands before its first space
+-- the first word of a line: the text before its first space
 abbrev pub first_word : List ℕ → List ℕ
 first_word [] = []
 first_word (byte ∷ bytes) = if byte == 32 then [] else byte ∷ first_word bytes
 
--- the rest of a line: what stands after its first space
+-- the rest of a line: the text after its first space
 abbrev pub rest_of : List ℕ → List ℕ
 rest_of [] = []
 rest_of (byte ∷ bytes) = if byte == 32 then bytes else rest_of bytes
@@ -52,13 +52,13 @@ abbrev pub is_number : ℕ → List ℕ → Bool
 is_number base [] = false
 is_number base (byte ∷ bytes) = are_digits base (byte ∷ bytes)
 
--- a line that goes on with a number, a space and more: what it says by that number and by what stands after the space.
--- It is none of the records where its next word is no number
+-- the record of a line that continues with a number, a space and more, by the number and the text after the space. If
+-- the next word is no number, it is another record
 unfoldable pub number_and_more : ℕ → List ℕ → (ℕ → List ℕ → SymbolLine) → SymbolLine
 number_and_more base text says =
     if is_number base (first_word text) then says (digits_value base (first_word text)) (rest_of text) else OtherLine
 
--- a line that ends with a number: what it says by that number. It is none of the records where there is no number
+-- the record of a line that ends with a number. Without a number it is another record
 unfoldable pub number_at_end : ℕ → List ℕ → (ℕ → SymbolLine) → SymbolLine
 number_at_end base text says = if is_number base text then says (digits_value base text) else OtherLine
 
@@ -105,7 +105,7 @@ read_code_line text =
 abbrev pub begins_with : List ℕ → List ℕ → Bool
 begins_with line word = bytes_eq (first_word line) word
 
--- what a line says, by its first word; a line with none of these words may be one of four numbers
+-- the record of a line by its first word; a line with another first word may be one of four numbers
 unfoldable pub read_line : List ℕ → SymbolLine
 read_line line =
     if begins_with line (codes "FILE") then read_file (rest_of line) else
@@ -114,6 +114,6 @@ read_line line =
     (if begins_with line (codes "PUBLIC") then read_public (rest_of line) else
     (if begins_with line (codes "INLINE") then read_inline (rest_of line) else read_code_line line))))
 
--- what a text says, line by line
+-- the records of a text, line by line
 unfoldable pub read_text : List ℕ → List SymbolLine
 read_text text = map read_line (lines text)

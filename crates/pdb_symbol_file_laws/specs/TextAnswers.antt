@@ -1,4 +1,4 @@
--- What a reader of a symbol file's text is shown, beside what is answered.
+-- What a reader of a symbol file's text finds, compared with the source's answers.
 use Rattle.std.specs.Prelude.{ℕ, ◌≡◌, ◌≤◌, ◌<◌, ◌^◌, ◌⊎◌, List, [], ◌∷◌, map, Bool, true, false, not, nat_lt}
 use Rattle.std.specs.Prelude.{Option, Some, None, option_map}
 use Rattle.std.specs.Io.KnownBytes.{Appends}
@@ -18,20 +18,20 @@ abbrev pub frame_on_one_line : ShownFrame → ShownFrame
 frame_on_one_line frame =
     record { function = on_one_line frame.function; place = option_map place_on_one_line frame.place }
 
--- whether the first of these functions begins at an address or before it
+-- whether the first of these functions begins at or before an address
 abbrev pub begins_by : ℕ → List FunctionRecords → Bool
 begins_by address [] = false
 begins_by address (records ∷ functions) = not (nat_lt address records.start)
 
--- no function whose end isn't known is the last that begins at an address or before it
+-- the last function that begins at or before an address has a known end
 abbrev pub NoneOpen : ℕ → List FunctionRecords → Type 0
 NoneOpen address [] = Unit {0}
 NoneOpen address (records ∷ functions) =
     (records.found.end_rva ≡ None → records.start ≤ address → begins_by address functions ≡ true)
     × NoneOpen address functions
 
--- a reader of a text is shown at an address what is answered there, with names on one line; and nothing where nothing
--- is answered, unless the last function before the address is one whose end isn't known
+-- a reader of a text finds at an address what the source answers there, with names on one line. It finds nothing if the
+-- source answers nothing, except if the last function before the address has an unknown end
 abbrev pub TextShows : {S : Type 0} → (S → ℕ → Option FramesInfo → Type 0) → S → List FunctionRecords → List ℕ
     → ℕ → Type 0
 TextShows answers source functions text address =
@@ -39,7 +39,7 @@ TextShows answers source functions text address =
     × (shown_by_text text address ≡ Some (map frame_on_one_line (answer_shown (turned answer))))))
     ⊎ (answers source address None × (NoneOpen address functions → shown_by_text text address ≡ None))
 
--- a text was appended by which a reader is shown at each address of 32 bits what is answered there
+-- the appended text shows a reader, at each 32-bit address, what the source answers there
 pub record AppendsAnswers {S : Type 0} (answers : S → ℕ → Option FramesInfo → Type 0) (source : S)
     (old new : Option (List ℕ)) : Type 0 where
   pub text : List ℕ

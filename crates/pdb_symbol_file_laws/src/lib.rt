@@ -1,7 +1,7 @@
 //! Laws of Breakpad symbol files: a plain reader of the text finds what was written.
 //!
-//! The reader is a definition in the words of the format, and knows nothing of how the text was written. Each function
-//! here does nothing. Its contract is a law, and the check proves it.
+//! The reader is a definition that follows the format alone, not how the text is written. Each function here does
+//! nothing. Its contract states a law, which the checker proves.
 #![tactic(auto)]
 
 pub mod shown_answers;

@@ -1,4 +1,4 @@
-//! What a reader of a symbol file's text is shown at an address.
+//! Laws on what a reader of a symbol file's text finds at an address.
 
 ghost use Rattle.std.specs.Prelude.{◌≡◌, ◌<◌, ◌+◌, ◌++◌, ◌^◌, ℕ, List, All, Option, Some, None, map};
 ghost use Rattle.std.specs.List.{flat_map};
@@ -18,10 +18,10 @@ ghost use Rattle.pdb_symbol_file_laws.specs.TextAnswers.{AppendsAnswers, NoneOpe
 
 use pdb_breakpad::FrameSource;
 
-/// A reader of all records of a symbol file is shown at an address what the records of the function over it say, with
-/// names on one line: where the inlined calls of each level stand one after the other. It is shown nothing where no
-/// function is over the address, unless the last one before it is one whose end isn't known: of such a function the
-/// text says only where it begins.
+/// Take the records of a symbol file in which the inlined calls of each level follow one another. At an address, a
+/// reader finds what the records of its function say, with names on one line. Without a function at the address it
+/// finds nothing, except if the last function before the address has an unknown end: the text has only the start of
+/// such a function.
 #[tactic(auto, using(crate::proofs::AnswerLemmas::shown))]
 pub fn records_show_functions()
     ensures over { (front : List (List ℕ)) (numbers : Numbers) (functions : List FunctionRecords) (from to address : ℕ)
@@ -35,9 +35,9 @@ pub fn records_show_functions()
         ++ (names_read numbers ++ flat_map function_read functions)) address ≡ None }
 {}
 
-/// A reader of a symbol file's text is shown at each address of 32 bits what the source answers there, with names on
-/// one line; and nothing where nothing is answered, unless the last function before the address is one whose end isn't
-/// known.
+/// At each 32-bit address, a reader of a symbol file's text finds what the source answers there, with names on one
+/// line. It finds nothing if the source answers nothing, except if the last function before the address has an unknown
+/// end.
 pub fn text_shows_answers<'a, S: FrameSource<'a>>()
     ensures { (source : S) (front : List (List ℕ)) (numbers : Numbers) (parameters : List (Segment ℕ))
         (functions : List FunctionRecords) (address : ℕ) → AreFunctions S.answers source numbers functions
@@ -46,9 +46,9 @@ pub fn text_shows_answers<'a, S: FrameSource<'a>>()
         (symbol_file_text (with_breaks front) numbers parameters functions) address }
 {}
 
-/// Whatever `write_symbol_file` writes if it succeeds, a reader of the text is shown at each address of 32 bits what
-/// the source answers there, with names on one line; and nothing where nothing is answered, unless the last function
-/// before the address is one whose end isn't known.
+/// If `write_symbol_file` succeeds, a reader of its text finds at each 32-bit address what the source answers there,
+/// with names on one line. It finds nothing if the source answers nothing, except if the last function before the
+/// address has an unknown end.
 pub fn a_written_file_shows_answers<'a, S: FrameSource<'a>>()
     ensures { (source : S) (identity : ModuleIdentity) (parameters : List (Segment ℕ)) (old new : Option (List ℕ))
         → WritesSymbolFile S.answers source identity parameters old new → AppendsAnswers S.answers source old new }

@@ -1,4 +1,4 @@
-//! What a reader finds in a symbol file's text, line by line.
+//! Laws on what a reader finds in a symbol file's text, line by line.
 
 ghost use Rattle.std.specs.Prelude.{◌≡◌, ◌≢◌, ◌++◌, ℕ, List, All, codes, map};
 ghost use Rattle.std.specs.List.{flat_map};
@@ -12,9 +12,9 @@ ghost use Rattle.pdb_breakpad.specs.WrittenRecords.{FitNumbers, FitTypes};
 ghost use Rattle.pdb_symbol_file_laws.specs.SymbolFileRecords.{function_read, names_read, on_one_line};
 ghost use Rattle.pdb_symbol_file_laws.specs.SymbolTextReader.{OtherLine, read_text};
 
-/// A reader of the text of names and functions finds the records of the names by their numbers, and then for each
-/// function its own record, those of its inlined calls in the order in which they are written, and those of its lines.
-/// After lines that say which module the file is of, it finds the same in a whole symbol file.
+/// In the text of names and functions, a reader finds the records of the names by their numbers. Then, for each
+/// function, it finds the function's own record, the records of its inlined calls in the order in which they are
+/// written, and those of its lines. In a whole symbol file, it finds the same after the lines about the module.
 #[tactic(auto, using(crate::proofs::FileLemmas::read))]
 pub fn text_says_records()
     ensures records { (numbers : Numbers) (parameters : List (Segment ℕ)) (functions : List FunctionRecords)
@@ -28,14 +28,14 @@ pub fn text_says_records()
         ≡ map (λ line. OtherLine) front ++ (names_read numbers ++ flat_map function_read functions) }
 {}
 
-/// A text that goes on after a line break says what its parts do: whatever stands in front.
+/// Two texts that are joined at a line break have the records of both.
 #[tactic(auto, using(crate::proofs::FrontLemmas::apart))]
 pub fn parts_say_the_same()
     ensures { (front text : List ℕ) → read_text ((front ++ codes "\n") ++ text)
         ≡ read_text (front ++ codes "\n") ++ read_text text }
 {}
 
-/// A name without line breaks is read as it is.
+/// A name without line breaks is read unchanged.
 #[tactic(auto, using(crate::proofs::NameLemmas::named))]
 pub fn names_say_themselves()
     ensures { (name : List ℕ) → IsUtf8 name → All (λ byte. byte ≢ 10) name → All (λ byte. byte ≢ 13) name

@@ -15,11 +15,11 @@ use Rattle.pdb_symbolication.specs.declared.requests.MemoryMapEntry.{MemoryMapEn
 use Rattle.pdb_symbolication.specs.declared.wanted_modules.Search.{Search}
 use Rattle.pdb_symbolication.specs.declared.wanted_modules.Search.TheVariants.{NotAsked, Impossible, Module}
 
--- the search for the entry of a memory map at this index: none is asked for where there is none
+-- the search for the entry of a memory map at this index; without an entry, none is asked for
 abbrev pub search_of : List Search → ℕ → Search
 search_of searches index = unwrap_or (slice_get searches index) NotAsked
 
--- a module is found where there are texts of it
+-- a module is found if there are texts for it
 abbrev pub finding_by_texts : Option (Option FrameTexts) → Finding
 finding_by_texts (Some (Some texts)) = finding.Found
 finding_by_texts texts = finding.NotFound
@@ -47,24 +47,24 @@ finding_text finding.Found = codes "true"
 abbrev pub module_key : MemoryMapEntry → List ℕ
 module_key entry = string_bytes entry.name ++ (codes "/" ++ string_bytes entry.debug_id)
 
--- the finding that stands for a key: the greater of the one that was there, if any, and another
+-- the finding for a key: the greater of the one before, if any, and another
 abbrev pub standing : Option Finding → Finding → Finding
 standing None found = found
 standing (Some before) found = greater before found
 
--- findings in ascending order of their keys, with one more: of those of one key the greater stands
+-- findings sorted by key, with one more; each key keeps its greater finding
 abbrev pub with_finding : List ℕ → Finding → List (List ℕ × Finding) → List (List ℕ × Finding)
 with_finding key found known =
     insert_entry (slice_cmp nat_cmp) known key (standing (lookup (is_at (slice_cmp nat_cmp key)) known) found)
 
--- these findings with those of entries of a memory map, the first of which has this index
+-- these findings with those of the entries of a memory map; `index` is that of the first entry
 abbrev pub findings_after : List Search → List (Option FrameTexts) → ℕ → List MemoryMapEntry
     → List (List ℕ × Finding) → List (List ℕ × Finding)
 findings_after searches found index [] known = known
 findings_after searches found index (entry ∷ entries) known = findings_after searches found (index + 1) entries
     (with_finding (module_key entry) (finding_of found (search_of searches index)) known)
 
--- findings whose keys are known by their bytes
+-- findings with their keys as bytes
 abbrev pub by_bytes : {Y : Type 0} → List (String Y × Finding) → List (List ℕ × Finding)
 by_bytes findings = map (λ known. (string_bytes known.0, known.1)) findings
 

@@ -3,16 +3,16 @@ use Rattle.std.specs.Prelude.{ℕ, Bool, false, List, [], ◌∷◌, ◌++◌, c
 use Rattle.std.specs.Fmt.{digits}
 use Rattle.pdb_symbolication.specs.JsonTexts.{quotation_mark}
 
--- what stands before a value: a comma, unless it is the first
+-- the text before a value: a comma, unless it is the first
 abbrev pub comma_before : Bool → List ℕ
 comma_before first = if first then [] else codes ","
 
--- values that follow others: a comma before each
+-- values after others, each with a comma before it
 abbrev pub later : List (List ℕ) → List ℕ
 later [] = []
 later (value ∷ values) = codes "," ++ (value ++ later values)
 
--- values with a comma between two
+-- values with commas between them
 abbrev pub separated : List (List ℕ) → List ℕ
 separated [] = []
 separated (value ∷ values) = value ++ later values

@@ -21,15 +21,15 @@ use Rattle.pdb_symbolication.specs.declared.wanted_modules.Search.TheVariants.{M
 use Rattle.pdb_symbolication.specs.declared.wanted_modules.WantedModule.{WantedModule}
 use Rattle.pdb_symbolication.specs.declared.wanted_modules.WantedModules.{WantedModules}
 
--- what the answer to a job is made of: the memory map, the search for each of its entries, the wanted modules, and the
--- texts of each of these that was found
+-- the parts of the answer to a job: the memory map, the search for each of its entries, the wanted modules, and the
+-- texts of each module that was found
 pub record Searched : Type 0 where
   pub memory_map : List MemoryMapEntry
   pub searches : List Search
   pub modules : List WantedModule
   pub found : List (Option FrameTexts)
 
--- the same, as the answer to a job is made
+-- the model of `JobAnswer`
 abbrev pub searched_by : JobAnswer → Searched
 searched_by answer = record {
   memory_map = answer.job.now.memory_map.items;
@@ -44,12 +44,12 @@ module_name memory_map Unknown = codes "<unknown>"
 module_name memory_map (At index) =
     option_map_or (λ entry. string_bytes entry.name) (slice_get memory_map index) (codes "<unknown>")
 
--- the text with the number that an offset has among these offsets: nothing where it is none of them
+-- the text for an offset, which has the offset's position in the list; empty if the list doesn't have the offset
 abbrev pub text_at : List ℕ → List (List ℕ) → ℕ → List ℕ
 text_at offsets texts offset =
     option_map_or (λ number. unwrap_or (slice_get texts number) []) (position (λ at. at == offset) offsets) []
 
--- the text at an offset of a module that is wanted, and found
+-- the text at an offset of a wanted module; empty if the module wasn't found
 abbrev pub module_text : Option WantedModule → Option (Option FrameTexts) → ℕ → List ℕ
 module_text (Some wanted) (Some (Some texts)) offset = text_at wanted.offsets.items (texts_of texts) offset
 module_text wanted texts offset = []
@@ -60,7 +60,7 @@ searched_text searched (Module position) offset =
     module_text (slice_get searched.modules position) (slice_get searched.found position) offset
 searched_text searched search offset = []
 
--- what was found at a frame: members that follow others
+-- the members of what was found for a frame, after other members
 abbrev pub known_text : Searched → FrameModule → ℕ → List ℕ
 known_text searched Unknown offset = []
 known_text searched (At index) offset = searched_text searched (search_of searched.searches index) offset
@@ -78,7 +78,7 @@ frame_object searched number frame =
     codes "{" ++ (separated (asked_members searched.memory_map number frame)
     ++ (known_text searched frame.module frame.offset ++ codes "}"))
 
--- frames, the first of which has this number
+-- the objects of frames, numbered from `number` on
 abbrev pub frame_objects : Searched → ℕ → List StackFrame → List (List ℕ)
 frame_objects searched number [] = []
 frame_objects searched number (frame ∷ frames) =
@@ -88,7 +88,7 @@ frame_objects searched number (frame ∷ frames) =
 abbrev pub stack_array : Searched → Stack → List ℕ
 stack_array searched stack = array (frame_objects searched 0 stack.frames.items)
 
--- what follows the stacks of a job: which modules of its memory map were found
+-- the text after the stacks of a job: which modules of its memory map were found
 abbrev pub stacks_end : Searched → List ℕ
 stacks_end searched = codes "],\"found_modules\":"
     ++ (found_modules searched.searches searched.found searched.memory_map ++ codes "}")
@@ -99,11 +99,11 @@ job_answer searched stacks = object (
     member (codes "stacks") (array (map (stack_array searched) stacks))
     ∷ (member (codes "found_modules") (found_modules searched.searches searched.found searched.memory_map) ∷ []))
 
--- the searches of the job of this number: none where there is none
+-- the searches of the job with this number; none if there is no such job
 abbrev pub job_searches : WantedModules → ℕ → List Search
 job_searches wanted number = option_map_or (λ searches. searches.items) (slice_get wanted.searches.items number) []
 
--- what the answer to the job of this number is made of
+-- the parts of the answer to the job with this number
 abbrev pub searched_job : WantedModules → List (Option FrameTexts) → ℕ → Job → Searched
 searched_job wanted found number job = record {
   memory_map = job.memory_map.items;
@@ -112,7 +112,7 @@ searched_job wanted found number job = record {
   found = found;
 }
 
--- the answers to jobs, the first of which has this number
+-- the answers to jobs, numbered from `number` on
 abbrev pub job_answers : WantedModules → List (Option FrameTexts) → ℕ → List Job → List (List ℕ)
 job_answers wanted found number [] = []
 job_answers wanted found number (job ∷ jobs) =
@@ -123,6 +123,6 @@ abbrev pub answer_text : SymbolicationRequest → WantedModules → List (Option
 answer_text request wanted found =
     object (member (codes "results") (array (job_answers wanted found 0 request.jobs.items)) ∷ []) ++ codes "\n"
 
--- the answer to a text that is no request: a line with an object that says in words what is wrong
+-- the answer to a text that is no request: a line with an object that has an error message
 abbrev pub error_text : List ℕ → List ℕ
 error_text why = object (member (codes "error") (quoted why) ∷ []) ++ codes "\n"

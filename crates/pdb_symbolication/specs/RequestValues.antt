@@ -1,5 +1,4 @@
--- What a JSON value says as a request: jobs, each with the entries of its memory map and its stacks. Or else the first
--- fault.
+-- Parses a JSON value as a request: jobs, each with the entries of its memory map and its stacks; or the first fault.
 use Rattle.std.specs.Prelude.{ℕ, zero, ◌+◌, ℤ, pos, negsuc, List, [], ◌∷◌, Bool, ◌&&◌, ◌||◌, not, nat_lt, length, map}
 use Rattle.std.specs.Prelude.{Option, Some, None, Result, Ok, Err, is_some, unwrap_or, decimal, codes, string_bytes}
 use Rattle.std.specs.Prelude.{if◌then◌else◌}
@@ -28,22 +27,22 @@ pub record JobValue : Type 0 where
   pub memory_map : List EntryValue
   pub stacks : List (List StackFrame)
 
--- an entry of a memory map, seen by its texts
+-- the model of an entry of a memory map: its texts
 abbrev pub entry_seen : MemoryMapEntry → EntryValue
 entry_seen entry = record { name = string_bytes entry.name; debug_id = string_bytes entry.debug_id }
 
--- a stack, seen by its frames
+-- the model of a stack: its frames
 abbrev pub stack_seen : Stack → List StackFrame
 stack_seen stack = stack.frames.items
 
--- a job, seen by its entries and its frames
+-- the model of a job: its entries and its frames
 abbrev pub job_seen : Job → JobValue
 job_seen job = record {
   memory_map = map entry_seen job.memory_map.items;
   stacks = map stack_seen job.stacks.items;
 }
 
--- a request, seen by its jobs
+-- the model of a request: its jobs
 abbrev pub request_seen : SymbolicationRequest → List JobValue
 request_seen request = map job_seen request.jobs.items
 
@@ -52,11 +51,11 @@ abbrev pub has : List ℕ → Data → Bool
 has name d = is_some (get name d)
 
 module _ {X : Type 0} where
-  -- what an object has under a name; an absent member is read as null is
+  -- parses the member of an object with this name; an absent member is parsed as null
   abbrev pub member_of : List ℕ → (Data → Result X Fault) → Data → Result X Fault
   member_of name one d = read_inside name (one (unwrap_or (get name d) null))
 
-  -- what each element says, the first of which has this number
+  -- parses each element; `number` is that of the first
   abbrev pub elements_from : ℕ → (Data → Result X Fault) → Items → Result (List X) Fault
   elements_from number one no_items = Ok []
   elements_from number one (item d ds) = do
@@ -64,7 +63,7 @@ module _ {X : Type 0} where
     xs ← elements_from (number + 1) one ds
     Ok (x ∷ xs)
 
-  -- an array; its elements are numbered from 0
+  -- parses each element of an array, numbered from 0
   abbrev pub elements_of : (Data → Result X Fault) → Data → Result (List X) Fault
   elements_of one d = do
     ds ← array_of d
@@ -89,19 +88,19 @@ entry_of d = do
   debug_id ← read_inside (decimal 1) (text_of pair.1)
   Ok (record { name = name; debug_id = debug_id })
 
--- the module of an index, where the memory map has so many entries: -1 stands for one that isn't known
+-- the module of a frame by an index of the memory map, which has `count` entries; -1 means an unknown module
 abbrev pub module_at : ℕ → ℤ → Option FrameModule
 module_at count (pos index) = if nat_lt index count then Some (At index) else None
 module_at count (negsuc zero) = Some Unknown
 module_at count (negsuc below) = None
 
--- which module a frame lies in
+-- parses the module of a frame
 unfoldable pub module_of : ℕ → Data → Result FrameModule Fault
 module_of count d = do
   index ← i64_of d
   wanted (codes "index of memoryMap, or -1") (module_at count index)
 
--- a frame: an array of two numbers, the index of its module and the offset there, which is from 0 on
+-- parses a frame: an array of two numbers, the index of its module and a nonnegative offset there
 unfoldable pub frame_of : ℕ → Data → Result StackFrame Fault
 frame_of count d = do
   pair ← pair_of (codes "index of a module and offset") d
@@ -149,11 +148,11 @@ request_of d = do
   request ← object_of d
   if is_job request then one_job request else member_of (codes "jobs") jobs_of request
 
--- what a value says as a request, where there is one
+-- parses an optional value as a request
 abbrev pub request_in : Option Data → Result (List JobValue) Fault
 request_in None = Err not_json
 request_in (Some d) = request_of d
 
--- what bytes say as a request, where they are UTF-8 and a JSON text
+-- parses bytes as a request; they must be UTF-8 and a JSON text
 unfoldable pub request_of_text : List ℕ → Result (List JobValue) Fault
 request_of_text bytes = request_in (if is_utf8 bytes then read bytes else None)

@@ -22,20 +22,20 @@ use Rattle.pdb_symbolication.specs.declared.wanted_modules.Search.TheVariants.{N
 use Rattle.pdb_symbolication.specs.declared.wanted_modules.WantedModule.{WantedModule}
 use Rattle.pdb_symbolication.specs.declared.wanted_modules.WantedModules.{WantedModules}
 
--- a module is the entry at this index
+-- whether a module is the entry at this index
 abbrev pub is_entry : ℕ → FrameModule → Bool
 is_entry index Unknown = false
 is_entry index (At other) = other == index
 
--- a frame of the stack names the entry at this index
+-- whether a frame of the stack names the entry at this index
 abbrev pub stack_names : ℕ → Stack → Bool
 stack_names index stack = list_any (λ frame. is_entry index frame.module) stack.frames.items
 
--- a frame of the job names the entry at this index
+-- whether a frame of the job names the entry at this index
 abbrev pub job_names : ℕ → Job → Bool
 job_names index job = list_any (stack_names index) job.stacks.items
 
--- a search that is made
+-- whether a search is made
 abbrev pub is_asked : Search → Bool
 is_asked NotAsked = false
 is_asked Impossible = true
@@ -47,22 +47,21 @@ pub record AsksFor (job : Job) (searches : List Search) : Type 0 where
   pub asked : (index : ℕ) → index < vec_len job.memory_map
       → is_asked (search_of searches index) ≡ job_names index job
 
--- what a module is searched by: its name and its debug id
+-- the identity by which a module is searched: its name and its debug id
 abbrev pub Identity : Type 0
 Identity = List ℕ × DebugId
 
--- the text by which a module is found again: its name, a slash and its debug id
+-- the text of an identity: the name, a slash and the debug id
 abbrev pub identity_text : Identity → List ℕ
 identity_text identity = identity.0 ++ (codes "/" ++ compact_text identity.1)
 
--- what an entry is searched by: nothing if its name isn't harmless, or if its debug id is none
+-- the identity of an entry; none if its name isn't harmless or its debug id is malformed
 abbrev pub identity_of : MemoryMapEntry → Option Identity
 identity_of entry =
     if is_harmless (string_bytes entry.name)
     then option_map (λ id. (string_bytes entry.name, id)) (debug_id_of (string_bytes entry.debug_id)) else None
 
--- a search is impossible only where there is nothing to search by. One that leads to a module leads to one of this
--- identity
+-- a search is impossible only if the entry has no identity; one that leads to a module leads to one with this identity
 abbrev pub LeadsTo : List Identity → Option Identity → Search → Type 0
 LeadsTo identities wanted NotAsked = Unit {0}
 LeadsTo identities wanted Impossible = wanted ≡ None
@@ -124,7 +123,7 @@ ServesJob offsets searches job = (number : ℕ) (stack : Stack)
 abbrev pub IsOffset : List (List ℕ) → ℕ → ℕ → Type 0
 IsOffset offsets position offset = Contains (unwrap_or (slice_get offsets position) []) offset
 
--- one of the first so many elements passes this test, which also takes the number of the element
+-- one of the first `count` elements passes this test, which also takes the element's number
 abbrev pub OneOfFirst : {X : Type 0} → ℕ → List X → (ℕ → X → Type 0) → Type 0
 OneOfFirst {X} count elements Is = (number : ℕ) × (element : X) × number < count
     × slice_get elements number ≡ Some element × Is number element
@@ -166,7 +165,7 @@ KeepsModules old new = (index position : ℕ) → slice_get old index ≡ Some (
 abbrev pub KeepsOffsets : List (List ℕ) → List (List ℕ) → Type 0
 KeepsOffsets old new = (position offset : ℕ) → HasOffset old position offset → HasOffset new position offset
 
--- each frame that the old searches serve is served by the new ones
+-- the new searches serve each frame that the old ones serve
 abbrev pub KeepsServed : List Search → List Search → Type 0
 KeepsServed old new = (offsets : List (List ℕ)) (frame : StackFrame)
     → ServesFrame offsets old frame → ServesFrame offsets new frame

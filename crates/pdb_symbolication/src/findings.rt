@@ -1,4 +1,4 @@
-//! Which modules of a job's memory map were found, by their keys in order.
+//! Writes which modules of a job's memory map were found, sorted by their keys.
 
 ghost use Rattle.std.specs.Prelude.{◌≡◌, [], ◌++◌, map, string_bytes, OnOk, IfOk};
 ghost use Rattle.pdb_symbolication.specs.Findings.{by_bytes, finding_member, finding_of};
@@ -13,7 +13,7 @@ use crate::wanted_modules::Search;
 use std::alloc::{AllocError, Global};
 use std::collections::BTreeMap;
 
-/// Whether a module was found. Of several entries with one key the greatest stands.
+/// Whether a module was found. If several entries have the same key, the greatest value counts.
 #[derive(Clone, Copy)]
 pub(crate) enum Finding {
     NotAsked,
@@ -32,7 +32,7 @@ impl Finding {
         }
     }
 
-    // The finding that stands for a key, of this one and the one that was there before.
+    // The finding for a key: the greater of this one and the earlier one.
     fn standing(self, before: Option<Finding>) -> Finding
         ensures { result ≡ standing before self }
     {
@@ -53,7 +53,7 @@ impl Finding {
     }
 }
 
-/// Appends which modules were found, as an object.
+/// Appends an object that says which modules were found.
 pub(crate) fn push_found_modules(
     text: &mut String,
     memory_map: &[MemoryMapEntry],
@@ -113,7 +113,7 @@ fn key_of(alloc: Global, entry: &MemoryMapEntry) -> Result<String, AllocError>
     format!(in alloc; "{}/{}", entry.name, entry.debug_id)
 }
 
-// Adds a finding, unless a greater one is there for its key.
+// Adds a finding for a key, unless the key has a greater one.
 fn add_finding(
     findings: &mut BTreeMap<String, Finding>,
     key: String,

@@ -1,4 +1,4 @@
-//! What an answer says of the addresses of a module: function, file, line and inlined calls, as members of an object.
+//! The text of an answer for addresses of a module: function, file, line and inlined calls, as JSON members.
 
 ghost use Rattle.std.specs.Prelude.{◌≡◌, [], ◌∷◌, ◌++◌, ◌-◌, map};
 ghost use Rattle.std.specs.Prelude.{string_bytes, length, slice_get, unwrap_or, IfOk, OnErr, OnOk};
@@ -11,7 +11,7 @@ ghost use Rattle.pdb_symbolication.specs.JsonObjects.{later, separated};
 use crate::json_text::{without_first_comma, write_comma, write_hexadecimal, write_quoted};
 use std::alloc::{AllocError, Global};
 
-/// A function, and where in it the address is; what isn't known is `None`.
+/// A function, and the source location of the address in it; what isn't known is `None`.
 #[derive(Clone, Copy)]
 pub struct SymbolizedFrame<'f> {
     pub function: Option<&'f str>,
@@ -19,23 +19,23 @@ pub struct SymbolizedFrame<'f> {
     pub line: Option<u32>,
 }
 
-/// A function that lies over an address, with those that are inlined there.
+/// The function that contains an address, with the functions that are inlined there.
 #[derive(Drop)]
 pub struct SymbolizedFunction<'f> {
     /// Where the function starts, relative to where its module is loaded.
     pub start: u32,
-    /// From inside to outside, the function itself last.
+    /// The frames, the innermost first and the containing function last.
     pub places: Vec<SymbolizedFrame<'f>>,
 }
 
-/// What an answer says of one offset of a module.
+/// The text of an answer for one offset of a module.
 #[derive(Drop)]
 pub struct FrameText {
     text: String,
 }
 
 impl FrameText {
-    /// The text of what was found at an offset.
+    /// The text for what was found at an offset; empty if nothing was.
     pub fn new(
         alloc: Global,
         offset: u32,
@@ -50,7 +50,7 @@ impl FrameText {
         Ok(FrameText { text })
     }
 
-    /// The same text once more.
+    /// A copy of the text.
     pub fn copy(&self, alloc: Global) -> Result<FrameText, AllocError>
         ensures { IfOk result (λ copy. string_bytes copy.text ≡ string_bytes self.now.text) }
     {
@@ -59,7 +59,7 @@ impl FrameText {
         })
     }
 
-    /// How many bytes the text has.
+    /// The length of the text in bytes.
     pub fn size(&self) -> usize
         ensures { result ≡ length (string_bytes self.now.text) }
     {
@@ -92,7 +92,7 @@ impl FrameTexts {
         Ok(())
     }
 
-    /// The text that was added as the one of this number, or nothing where there is none.
+    /// The text with this number, in the order of adding; empty if there is none.
     pub(crate) fn get(&self, number: usize) -> &str
         ensures answer { result.now ≡ unwrap_or (slice_get (texts_of self.now) number) [] }
     {
@@ -103,7 +103,7 @@ impl FrameTexts {
     }
 }
 
-// Appends the members of what was found, a comma before each.
+// Appends the members for what was found, each after a comma.
 fn push_found(
     text: &mut String,
     offset: u32,
@@ -120,7 +120,7 @@ fn push_found(
     push_inlines(text, inlined)
 }
 
-// Appends the name of a function, and how many bytes after its start the address is.
+// Appends the name of a function, and the address's offset from its start.
 fn push_function(text: &mut String, name: Option<&str>, within: u32) -> Result<(), AllocError>
     ensures { OnOk result (string_bytes text.new
         ≡ string_bytes text.old ++ later (function_members name.entry within)) }
@@ -144,7 +144,7 @@ fn push_inlines(text: &mut String, calls: &[SymbolizedFrame<'_>]) -> Result<(), 
     text.push(']')
 }
 
-// Appends inlined calls, with a comma between two.
+// Appends inlined calls, with commas between them.
 fn push_calls(text: &mut String, calls: &[SymbolizedFrame<'_>]) -> Result<(), AllocError>
     ensures { OnOk result (string_bytes text.new
         ≡ string_bytes text.old ++ separated (map inlined_call calls.now)) }
@@ -156,7 +156,7 @@ fn push_calls(text: &mut String, calls: &[SymbolizedFrame<'_>]) -> Result<(), Al
     Ok(())
 }
 
-// Appends an object of an inlined call.
+// Appends the object of an inlined call.
 fn push_call(text: &mut String, call: &SymbolizedFrame<'_>) -> Result<(), AllocError>
     ensures { OnOk result (string_bytes text.new ≡ string_bytes text.old ++ inlined_call call.now) }
 {
@@ -184,7 +184,7 @@ fn push_line(text: &mut String, line: Option<u32>) -> Result<(), AllocError>
     }
 }
 
-// Appends a member whose value is a text, with a comma before it, where the text is known.
+// Appends a member with a text, after a comma, if the text is known.
 fn push_text(text: &mut String, name: &str, value: Option<&str>) -> Result<(), AllocError>
     ensures { OnOk result (string_bytes text.new ≡ string_bytes text.old ++ later (text_member name.now value.entry)) }
 {

@@ -1,10 +1,10 @@
-//! Names of modules that can be files of a folder, and lead to nothing outside of it.
+//! Checks whether a module's name can be that of a file in a folder, and leads nowhere else.
 
 ghost use Rattle.std.specs.Prelude.{◌≡◌};
 ghost use Rattle.std.specs.List.{list_all};
 ghost use Rattle.pdb_symbolication.specs.HarmlessNames.{is_harmless, is_plain};
 
-/// Whether a name leads from a folder to a file in it and to nothing else, on whatever system.
+/// Whether a name, appended to a folder, is a file directly in it on any operating system.
 ///
 /// ```
 /// assert!(is_harmless_name("xul.pdb") && !is_harmless_name("../xul.pdb"));
@@ -29,7 +29,7 @@ fn are_plain(bytes: &[u8]) -> bool
     true
 }
 
-// Whether a byte ends neither a name nor that of a folder or a drive in front of it.
+// Whether a byte is neither a separator of folders or drives nor a zero, which ends a path.
 fn is_plain(byte: u8) -> bool
     ensures answer { result ≡ is_plain byte }
 {

@@ -1,4 +1,4 @@
-//! Texts in quotation marks, as JSON writes them.
+//! Writes JSON strings, hexadecimal numbers and commas.
 
 ghost use Rattle.std.specs.Prelude.{◌≡◌, ℕ, List, ◌++◌, string_bytes, OnOk};
 ghost use Rattle.pdb_symbolication.specs.JsonObjects.{comma_before, hexadecimal, later, separated};
@@ -6,7 +6,7 @@ ghost use Rattle.pdb_symbolication.specs.JsonTexts.{control_character, quoted, q
 
 use std::alloc::AllocError;
 
-/// Appends a text in quotation marks, as JSON writes it.
+/// Appends a text as a JSON string.
 pub fn write_quoted(out: &mut String, text: &str) -> Result<(), AllocError>
     ensures { OnOk result (string_bytes out.new ≡ string_bytes out.old ++ quoted text.now) }
 {
@@ -37,14 +37,14 @@ fn write_control(out: &mut String, character: u32) -> Result<(), AllocError>
     write!(out, "\\u00{:x}{:x}", character / 16, character % 16)
 }
 
-/// Appends a number in hexadecimal digits after `0x`, as a text.
+/// Appends a number as a JSON string of hexadecimal digits after `0x`.
 pub(crate) fn write_hexadecimal(out: &mut String, number: u64) -> Result<(), AllocError>
     ensures { OnOk result (string_bytes out.new ≡ string_bytes out.old ++ hexadecimal number) }
 {
     write!(out, "\"0x{number:x}\"")
 }
 
-/// Appends the comma before a value, unless it is the first.
+/// Appends the comma before a value, unless the value is the first.
 pub(crate) fn write_comma(out: &mut String, first: bool) -> Result<(), AllocError>
     ensures { OnOk result (string_bytes out.new ≡ string_bytes out.old ++ comma_before first) }
 {
@@ -54,7 +54,7 @@ pub(crate) fn write_comma(out: &mut String, first: bool) -> Result<(), AllocErro
     out.push(',')
 }
 
-/// Values that follow others, without the comma before the first.
+/// Values that each follow a comma, without the first comma.
 pub(crate) fn without_first_comma(values: &str) -> &str
     ensures { (each : List (List ℕ)) → values.now ≡ later each → result.now ≡ separated each }
 {

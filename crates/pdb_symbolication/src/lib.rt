@@ -1,9 +1,9 @@
 //! Requests of Mozilla's symbolication API and their answers: functions, files and lines of addresses in stacks.
 //!
-//! [`SymbolicationRequest::from_slice`] reads a request whole. [`WantedModules`] has the modules that its frames name, each once,
-//! with the offsets at which they ask for it. Whoever finds these modules makes the [`FrameText`] of each offset, and
-//! [`write_answer`] puts every text at its frames. No file is opened here: [`is_harmless_name`] says which names of
-//! modules can be files of a folder.
+//! [`SymbolicationRequest::from_slice`] parses a whole request. [`WantedModules`] lists the modules that its frames
+//! name, each once, with the offsets that are asked for. The caller finds these modules and makes a [`FrameText`] for
+//! each offset. [`write_answer`] writes each text at its frames. This crate opens no file; [`is_harmless_name`] says
+//! which names of modules are safe to use as names of files in a folder.
 #![tactic(auto)]
 
 mod findings;

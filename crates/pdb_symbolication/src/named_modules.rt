@@ -1,4 +1,4 @@
-//! Goes through the frames of a request, and collects the modules that they name.
+//! Collects the modules that the frames of a request name.
 
 ghost use Rattle.std.specs.Prelude.{◌≡◌, ◌<◌, ◌||◌, ◌++◌, ◌∷◌, [], ℕ, true, Some};
 ghost use Rattle.std.specs.Prelude.{length, vec_len, slice_get, IfOk, IfSome, IsTrue, OnOk, OnSome, option_map};
@@ -21,7 +21,8 @@ use std::alloc::{AllocError, Global};
 use std::collections::BTreeMap;
 
 impl WantedModules {
-    /// The modules of a request. Entries of the same name and debug id, of whatever job, are one module.
+    /// The modules of a request. Entries with the same name and debug id are one module, also if they are in different
+    /// jobs.
     pub fn of(alloc: Global, request: &SymbolicationRequest) -> Result<WantedModules, AllocError>
         ensures answer { IfOk result (AsksForEach request.now) }
     {
@@ -41,17 +42,17 @@ impl WantedModules {
     }
 }
 
-/// The modules of the frames that were gone through.
+/// The modules that the frames named so far.
 #[derive(Drop)]
 struct Collector {
     alloc: Global,
     modules: Vec<NamedModule>,
-    /// The positions of the modules, by their names with their debug ids.
+    /// The positions of the modules, by name and debug id.
     positions: BTreeMap<String, usize>,
 }
 
 impl Collector {
-    // Adds the frames of a job, and answers what they ask for of each entry of its memory map.
+    // Adds the frames of a job. Returns what they ask for each entry of its memory map.
     fn add_job(&mut self, job: &Job) -> Result<Vec<Search>, AllocError>
         ensures led { IfOk result (λ searches.
             LeadToEntries (identities_in self.new) job.now.memory_map.items searches.items) }
@@ -127,7 +128,7 @@ impl Collector {
         }
     }
 
-    // The search for an entry that a frame names, which may be made already.
+    // The search for an entry that a frame names. It may exist from an earlier frame.
     fn made_search(&mut self, entry: &MemoryMapEntry, before: Search) -> Result<Search, AllocError>
         requires { LeadsTo (identities_in self.old) (identity_of entry.now) before }
         ensures same { IfOk result (λ search. is_asked before ≡ true → search ≡ before) }
@@ -157,7 +158,7 @@ impl Collector {
         }
     }
 
-    // The module of this name and debug id, which is added where it isn't there.
+    // The search for the module with this name and debug id, which is added if it is new.
     fn module_of(&mut self, name: &str, debug_id: DebugId) -> Result<Search, AllocError>
         requires harmless { IsTrue (is_harmless name.now) }
         ensures asked { IfOk result (λ search. is_asked search ≡ true) }
@@ -178,7 +179,7 @@ impl Collector {
         }
     }
 
-    // Where the module of this name and debug id is, by its key.
+    // The position of the module with this name and debug id, by its key.
     fn known_position(&self, key: &String, name: &str, debug_id: &DebugId) -> Option<usize>
         ensures { IfSome result (λ position.
             slice_get (identities_in self.now) position ≡ Some (name.now, debug_id.now)) }
@@ -204,7 +205,7 @@ impl Collector {
         self.modules.get(position)
     }
 
-    // Adds a module, and answers its position.
+    // Adds a module, and returns its position.
     fn add_module(&mut self, name: &str, debug_id: DebugId) -> Result<usize, AllocError>
         requires harmless { IsTrue (is_harmless name.now) }
         ensures added { OnOk result (identities_in self.new ≡ identities_in self.old ++ (name.now, debug_id) ∷ []) }
@@ -220,7 +221,7 @@ impl Collector {
         Ok(position)
     }
 
-    // Adds an offset at which a frame asks for the module at this position.
+    // Adds an offset that a frame asks for to the module at this position.
     fn add_offset(&mut self, position: usize, offset: u64) -> Result<(), AllocError>
         requires known { position < length (identities_in self.old) }
         ensures identities { identities_in self.new ≡ identities_in self.old }
@@ -235,7 +236,7 @@ impl Collector {
         }
     }
 
-    // The modules that are wanted.
+    // The wanted modules, with their offsets sorted.
     fn finish(self) -> Result<Vec<WantedModule>, AllocError>
         ensures identities { IfOk result (λ modules. identities_of modules.items ≡ identities_in self) }
         ensures offsets { IfOk result (λ modules. KeepsOffsets (offsets_in self) (offsets_of modules.items)) }
@@ -249,7 +250,7 @@ impl Collector {
     }
 }
 
-// The debug id that an entry is searched by, if its name is harmless.
+// The debug id by which an entry's file is looked for, if its name is harmless.
 fn searched_id(entry: &MemoryMapEntry) -> Option<DebugId>
     ensures answer { option_map (λ id. (string_bytes entry.now.name, id)) result ≡ identity_of entry.now }
     ensures harmless { OnSome result (IsTrue (is_harmless (string_bytes entry.now.name))) }
@@ -260,7 +261,7 @@ fn searched_id(entry: &MemoryMapEntry) -> Option<DebugId>
     DebugId::parse(entry.debug_id.as_str())
 }
 
-// The text by which a module is found again.
+// The key of a module in the map of positions.
 fn key_of(alloc: Global, name: &str, debug_id: DebugId) -> Result<String, AllocError>
     ensures { IfOk result (λ key. string_bytes key ≡ identity_text (name.now, debug_id)) }
 {

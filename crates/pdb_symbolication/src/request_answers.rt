@@ -22,13 +22,13 @@ use std::io;
 /// The name of a module that isn't known.
 const UNKNOWN: &str = "<unknown>";
 
-/// Writes the answer to a request as one line of JSON, and has the writer hand on what it holds back.
+/// Writes the answer to a request as one line of JSON, and flushes the writer.
 ///
-/// Of each wanted module the texts at its offsets are given, in their order, or `None` where it was not found.
+/// `found` has for each wanted module the texts at its offsets, in their order, or `None` if the module was not found.
 ///
 /// # Errors
 ///
-/// That memory ran out, or that the writer refused a part of the text. A beginning of the text is written then.
+/// Memory ran out, or the writer refused a part of the text. A beginning of the text may have been written.
 pub fn write_answer<W: io::Write>(
     alloc: Global,
     out: &mut W,
@@ -45,7 +45,7 @@ pub fn write_answer<W: io::Write>(
     out.flush()
 }
 
-// Writes the answers to the jobs, with a comma between two.
+// Writes the answers to the jobs, with commas between them.
 fn write_jobs<W: io::Write>(
     alloc: Global,
     out: &mut W,
@@ -72,7 +72,7 @@ fn searches_of(wanted: &WantedModules, job: usize) -> &[Search]
     }
 }
 
-/// The line that answers what is no request: an object with what is wrong, in words.
+/// The answer to an invalid request: a line with an object that has the error.
 pub fn error_line(alloc: Global, why: &str) -> Result<String, AllocError>
     ensures answer { IfOk result (λ line. string_bytes line ≡ error_text why.now) }
 {
@@ -82,19 +82,19 @@ pub fn error_line(alloc: Global, why: &str) -> Result<String, AllocError>
     Ok(line)
 }
 
-/// What the answer to a job is made of.
+/// The data for the answer to a job.
 #[derive(Clone, Copy)]
 struct JobAnswer<'a> {
     job: &'a Job,
-    /// For each entry of the memory map.
+    /// The search for each entry of the memory map.
     searches: &'a [Search],
     modules: &'a [WantedModule],
-    /// For each of these modules.
+    /// The texts of each of these modules.
     found: &'a [Option<FrameTexts>],
 }
 
 impl<'a> JobAnswer<'a> {
-    // Of the job with this number in its request.
+    // The data for the job with this number in its request.
     fn of(
         job: &'a Job,
         number: usize,
@@ -122,7 +122,7 @@ impl<'a> JobAnswer<'a> {
         write_whole(out, end.as_bytes())
     }
 
-    // What follows the stacks.
+    // The text after the stacks.
     fn end(self, alloc: Global) -> Result<String, AllocError>
         ensures { IfOk result (λ end. string_bytes end ≡ stacks_end (searched_by self.entry)) }
     {
@@ -132,7 +132,7 @@ impl<'a> JobAnswer<'a> {
         Ok(end)
     }
 
-    // Writes the stacks, with a comma between two.
+    // Writes the stacks, with commas between them.
     fn write_stacks<W: io::Write>(self, alloc: Global, out: &mut W) -> io::Result<()>
         ensures { Writes (W.contents out.old) (W.contents out.new) result
             (separated (map (stack_array (searched_by self.entry)) self.entry.job.now.stacks.items)) }
@@ -145,7 +145,7 @@ impl<'a> JobAnswer<'a> {
         Ok(())
     }
 
-    // Writes a stack, each frame by a text that is made anew.
+    // Writes a stack, frame by frame. `text` is a buffer for the text of one frame.
     fn write_stack<W: io::Write>(
         self,
         out: &mut W,
@@ -221,7 +221,7 @@ impl<'a> JobAnswer<'a> {
         UNKNOWN
     }
 
-    // What was found at a frame, or nothing.
+    // The text for a frame; empty if nothing was found.
     fn frame_text(self, frame: StackFrame) -> &'a str
         ensures { result.now ≡ known_text (searched_by self.entry) frame.module frame.offset }
     {
@@ -240,7 +240,7 @@ impl<'a> JobAnswer<'a> {
         }
     }
 
-    // What was found at an offset of the module at this position.
+    // The text at an offset of the module at this position; empty if nothing was found.
     fn module_text(self, position: usize, offset: u64) -> &'a str
         ensures { result.now ≡ module_text (slice_get self.entry.modules.now position)
             (slice_get self.entry.found.now position) offset }

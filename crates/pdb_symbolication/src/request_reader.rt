@@ -1,4 +1,4 @@
-//! Reads a request from its JSON value; the first fault in it is answered with the path to the value at fault.
+//! Parses a request from JSON. An error names the path of the first wrong value.
 
 ghost use Rattle.std.specs.Prelude.{◌≡◌, All, IfOk, codes, decimal, map, string_bytes, unwrap_or};
 ghost use Rattle.serde_json.specs.Data.{null};
@@ -21,17 +21,16 @@ use pdb_json_values::{
 use serde_json::Value;
 use std::alloc::Global;
 
-/// The index of a module that isn't known.
+/// The index that means an unknown module.
 const UNKNOWN: i64 = -1;
 
 impl SymbolicationRequest {
-    /// Reads a request of version 5 from a JSON text: an object with `jobs`, or one job by itself. Members that the API
-    /// doesn't have are passed over.
+    /// Parses a request of version 5 of the API: an object with `jobs`, or a single job. Unknown members are ignored.
     ///
     /// # Errors
     ///
-    /// The first value that is absent, of another sort than is wanted, or out of range, by its path from the whole
-    /// request, as in `/jobs/0/stacks/1/2/0`; that the text is none; or that memory ran out.
+    /// The path of the first value that is missing, of the wrong kind or out of range, such as `/jobs/0/stacks/1/2/0`;
+    /// that the text isn't JSON; or that memory ran out.
     pub fn from_slice(alloc: Global, bytes: &[u8]) -> Result<SymbolicationRequest, RecordFault>
         ensures answer { AgreesBy request_seen result (request_of_text bytes.now) }
         ensures in_map { IfOk result (λ request. All NamesItsModules request.jobs.items) }
@@ -51,7 +50,7 @@ fn first_reader(alloc: Global) -> Reader {
     }
 }
 
-// Reads a request: its jobs, or the one job that it is.
+// Reads a request, which has jobs or is a single job.
 #[tactic(auto, unfolding(crate::specs::RequestValues::request_of))]
 fn request_of(reader: Reader, value: &Value) -> Result<SymbolicationRequest, RecordFault>
     ensures { AgreesBy request_seen result (request_of (view value.now)) }
@@ -73,14 +72,14 @@ fn jobs_in(reader: Reader, request: &Value) -> Result<Vec<Job>, RecordFault>
     inside(reader.alloc, "jobs", jobs)
 }
 
-// The value of an object's member, if it has one of this name.
+// The value of an object's member with this name, if there is one.
 fn member<'v>(object: &'v Value, name: &str) -> Option<&'v Value>
     ensures { found result ≡ unwrap_or (get name.now (view object.now)) null }
 {
     object.get(name)
 }
 
-// Whether an object is a job: it has one of the members of a job, and none with the name `jobs`.
+// Whether an object is a single job: it has a member of a job, and no member `jobs`.
 fn is_job(object: &Value) -> bool
     ensures { result ≡ is_job (view object.now) }
 {
@@ -94,7 +93,7 @@ fn has(object: &Value, name: &str) -> bool
     object.get(name).is_some()
 }
 
-// Reads a request that is one job.
+// Reads a request that is a single job.
 #[tactic(auto, unfolding(crate::specs::RequestValues::one_job))]
 fn one_job(reader: Reader, value: &Value) -> Result<SymbolicationRequest, RecordFault>
     ensures { AgreesBy request_seen result (one_job (view value.now)) }
@@ -118,7 +117,7 @@ fn jobs_of(reader: Reader, value: Option<&Value>) -> Result<Vec<Job>, RecordFaul
     Ok(jobs)
 }
 
-// Reads the job of this number.
+// Reads the job with this number.
 fn job_at(reader: Reader, number: usize, value: &Value) -> Result<Job, RecordFault>
     ensures { AgreesBy job_seen result (read_inside (decimal number) (job_of (view value.now))) }
 {
@@ -157,7 +156,7 @@ fn memory_map_of(reader: Reader, value: Option<&Value>) -> Result<Vec<MemoryMapE
     Ok(entries)
 }
 
-// Reads the entry of this number.
+// Reads the entry with this number.
 fn entry_at(reader: Reader, number: usize, value: &Value) -> Result<MemoryMapEntry, RecordFault>
     ensures { AgreesBy entry_seen result (read_inside (decimal number) (entry_of (view value.now))) }
 {
@@ -175,7 +174,7 @@ fn entry_of(reader: Reader, value: &Value) -> Result<MemoryMapEntry, RecordFault
     Ok(MemoryMapEntry { name, debug_id })
 }
 
-// Reads the elements of an array of two, which `sort` names.
+// Reads the two elements of an array. `sort` says in an error what they should be.
 #[tactic(auto, unfolding(crate::specs::RequestValues::pair_of))]
 fn pair_of<'v>(
     reader: Reader,
@@ -191,7 +190,7 @@ fn pair_of<'v>(
     Ok((&elements[0], &elements[1]))
 }
 
-// Reads a text that is the element of this number.
+// Reads a text, which is the element with this number.
 fn text_at(reader: Reader, number: usize, value: &Value) -> Result<String, RecordFault>
     ensures { AgreesBy string_bytes result (read_inside (decimal number) (text_of (view value.now))) }
 {
@@ -205,7 +204,7 @@ fn text_of(reader: Reader, value: &Value) -> Result<String, RecordFault>
     Ok(String::from_str(reader.alloc, text)?)
 }
 
-// Reads the stacks of a job, whose memory map has so many entries.
+// Reads the stacks of a job, whose memory map has `modules` entries.
 fn stacks_in(reader: Reader, modules: usize, job: &Value) -> Result<Vec<Stack>, RecordFault>
     ensures { AgreesBy (λ stacks. map stack_seen stacks.items) result
         (member_of (codes "stacks") (stacks_of modules) (view job.now)) }
@@ -214,7 +213,7 @@ fn stacks_in(reader: Reader, modules: usize, job: &Value) -> Result<Vec<Stack>, 
     inside(reader.alloc, "stacks", stacks)
 }
 
-// Reads stacks of addresses in so many modules.
+// Reads stacks of addresses in `modules` modules.
 #[tactic(auto, unfolding(crate::specs::RequestValues::stacks_of))]
 fn stacks_of(
     reader: Reader,
@@ -232,7 +231,7 @@ fn stacks_of(
     Ok(stacks)
 }
 
-// Reads the stack of this number.
+// Reads the stack with this number.
 fn stack_at(
     reader: Reader,
     modules: usize,
@@ -268,7 +267,7 @@ fn frame_of(reader: Reader, modules: usize, value: &Value) -> Result<StackFrame,
     Ok(StackFrame { module, offset })
 }
 
-// Reads which of so many modules an address lies in.
+// Reads the module of an address, out of `modules` modules.
 #[tactic(auto, unfolding(crate::specs::RequestValues::module_of))]
 fn module_of(reader: Reader, modules: usize, value: &Value) -> Result<FrameModule, RecordFault>
     ensures { Agrees result (module_of modules (view value.now)) }
@@ -280,7 +279,7 @@ fn module_of(reader: Reader, modules: usize, value: &Value) -> Result<FrameModul
     }
 }
 
-// The module of an index, where the memory map has so many entries.
+// The module with an index, if the memory map has `modules` entries; `None` if the index is invalid.
 fn module_at(modules: usize, index: i64) -> Option<FrameModule>
     ensures { result ≡ module_at modules index }
 {

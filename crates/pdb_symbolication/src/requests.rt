@@ -1,4 +1,4 @@
-//! A request: jobs, each with the modules of a process and stacks of addresses in them.
+//! The types of a request: jobs, each with the modules of a process and stacks of addresses in them.
 
 /// A request of the symbolication API, version 5.
 #[derive(Drop)]
@@ -27,17 +27,17 @@ pub struct Stack {
     pub frames: Vec<StackFrame>,
 }
 
-/// An address: so many bytes after where its module is loaded.
+/// An address, as an offset from where its module is loaded.
 #[derive(Clone, Copy)]
 pub struct StackFrame {
     pub module: FrameModule,
     pub offset: u64,
 }
 
-/// Which module an address lies in.
+/// The module that contains an address.
 #[derive(Clone, Copy)]
 pub enum FrameModule {
-    /// None that is known.
+    /// An unknown module.
     Unknown,
     /// The entry of the memory map at this index.
     At(usize),

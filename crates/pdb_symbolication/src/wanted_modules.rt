@@ -1,4 +1,4 @@
-//! Modules that the frames of a request name, each once, with the offsets at which they ask for it.
+//! `WantedModule`: the modules that the frames of a request name, each with the offsets that are asked for.
 
 ghost use Rattle.std.specs.List.Sorted.{IsStrictlyIncreasing};
 ghost use Rattle.std.specs.Prelude.{◌≡◌, ◌==◌, ◌<◌, ◌^◌, ◌⊎◌, position, Contains, IsTrue, OnOk, string_bytes, true, ℕ};
@@ -7,20 +7,20 @@ ghost use Rattle.pdb_symbolication.specs.HarmlessNames.{is_harmless};
 use pdb_identity::DebugId;
 use std::alloc::AllocError;
 
-/// A module that frames of a request name. Its name leads from a folder to a file in it, and to nothing else.
+/// A module that frames of a request name. Its name, appended to a folder, is a file directly in it.
 #[derive(Drop)]
 pub struct WantedModule {
     pub name: String,
     pub debug_id: DebugId,
-    /// Where frames ask, relative to where the module is loaded: ascending, and each once. Offsets past 32 bits are
-    /// left out, since no module has them.
+    /// The offsets that are asked for, relative to where the module is loaded: ascending, and each once. Offsets of
+    /// more than 32 bits are omitted, because no module is that large.
     pub offsets: Vec<u32>,
     pub ghost harmless: { IsTrue (is_harmless (string_bytes name)) },
     pub ghost ascending: { IsStrictlyIncreasing offsets.items },
 }
 
 impl WantedModule {
-    // Which of the offsets this is, if it is one.
+    // The number of an offset in this list, if it is there.
     pub(crate) fn number_of(&self, offset: u64) -> Option<usize>
         ensures { result ≡ position (λ at. at == offset) self.now.offsets.items }
     {
@@ -28,7 +28,7 @@ impl WantedModule {
     }
 }
 
-// Which of ascending offsets this is, if it is one.
+// The number of an offset in an ascending list, if it is there.
 fn number_in(offsets: &[u32], offset: u64) -> Option<usize>
     requires { IsStrictlyIncreasing offsets.now }
     ensures { result ≡ position (λ at. at == offset) offsets.now }
@@ -39,18 +39,18 @@ fn number_in(offsets: &[u32], offset: u64) -> Option<usize>
     }
 }
 
-/// A module that frames name. Its name leads from a folder to a file in it, and to nothing else.
+/// A module that frames name. Its name, appended to a folder, is a file directly in it.
 #[derive(Drop)]
 pub(crate) struct NamedModule {
     pub name: String,
     pub debug_id: DebugId,
-    /// Where frames ask for it, in the order of the request. Offsets past 32 bits are left out.
+    /// The offsets that are asked for, in the order of the request. Offsets of more than 32 bits are omitted.
     pub offsets: Vec<u32>,
     pub ghost harmless: { IsTrue (is_harmless (string_bytes name)) },
 }
 
 impl NamedModule {
-    // Whether it has this name and this debug id.
+    // Whether the module has this name and this debug id.
     pub(crate) fn is_of(&self, name: &str, debug_id: &DebugId) -> bool
         ensures name { result ≡ true → string_bytes self.now.name ≡ name.now }
         ensures debug_id { result ≡ true → self.now.debug_id ≡ debug_id.now }
@@ -58,7 +58,7 @@ impl NamedModule {
         self.name.as_str() == name && self.debug_id == *debug_id
     }
 
-    // Adds an offset at which a frame asks for it.
+    // Adds an offset that a frame asks for.
     pub(crate) fn add_offset(&mut self, offset: u64) -> Result<(), AllocError>
         ensures name { self.new.name ≡ self.old.name }
         ensures debug_id { self.new.debug_id ≡ self.old.debug_id }
@@ -74,7 +74,7 @@ impl NamedModule {
         Ok(())
     }
 
-    // The module, whose offsets then ascend and stand there once.
+    // The wanted module, with its offsets sorted and each once.
     pub(crate) fn wanted(self) -> WantedModule
         ensures name { result.name ≡ self.name }
         ensures debug_id { result.debug_id ≡ self.debug_id }
@@ -92,12 +92,12 @@ impl NamedModule {
     }
 }
 
-/// What the frames of a job ask for of an entry of its memory map.
+/// What the frames of a job ask for an entry of its memory map.
 #[derive(Clone, Copy)]
 pub(crate) enum Search {
-    /// None names it.
+    /// No frame names the entry.
     NotAsked,
-    /// No file can be of that name and that debug id.
+    /// No file can have that name and that debug id.
     Impossible,
     /// The wanted module at this position.
     Module(usize),
@@ -107,6 +107,6 @@ pub(crate) enum Search {
 #[derive(Drop)]
 pub struct WantedModules {
     pub modules: Vec<WantedModule>,
-    /// Of each job, for each entry of its memory map.
+    /// For each job, the search for each entry of its memory map.
     pub(crate) searches: Vec<Vec<Search>>,
 }

@@ -1,4 +1,4 @@
-//! Writes to a writer of which a beginning is known to be written where the writer refuses.
+//! Writes complete texts. If the writer refuses a part, a beginning is known to be written.
 
 ghost use Rattle.std.specs.Prelude.{◌≡◌, ◌≤◌, drop, length};
 ghost use Rattle.pdb_symbolication.specs.Writes.{Writes};
@@ -10,7 +10,7 @@ use std::io;
 ///
 /// # Errors
 ///
-/// The writer's, after which a beginning of the bytes is written.
+/// The writer's error. A beginning of the bytes was then written.
 pub fn write_whole<W: io::Write>(out: &mut W, bytes: &[u8]) -> io::Result<()>
     ensures { Writes (W.contents out.old) (W.contents out.new) result bytes.now }
 {
@@ -36,7 +36,7 @@ fn after(bytes: &[u8], count: usize) -> &[u8]
     &bytes[count..]
 }
 
-/// Writes the comma before a value, unless it is the first.
+/// Writes the comma before a value, unless the value is the first.
 pub(crate) fn write_comma<W: io::Write>(out: &mut W, first: bool) -> io::Result<()>
     ensures { Writes (W.contents out.old) (W.contents out.new) result (comma_before first) }
 {

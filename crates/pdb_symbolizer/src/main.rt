@@ -1,9 +1,9 @@
 //! Prints the functions, files and lines that addresses of a Windows program come from, by its PDB file.
 //!
-//! `pdb_symbolizer [OPTIONS] FILE [ADDRESS...]` prints for each address the functions in whose code it
-//! lies, in the styles of `llvm-symbolizer`. With no address it reads them from standard input, a line
-//! each, and answers each before it reads the next. `pdb_symbolizer --export RECORDS FILE` writes what it
-//! read as a records file.
+//! `pdb_symbolizer [OPTIONS] FILE [ADDRESS...]` prints for each address its function and inlined calls, in the styles
+//! of `llvm-symbolizer`. Without an address on the command line, it reads addresses from standard input, one per line,
+//! and answers each line before it reads the next. `pdb_symbolizer --export RECORDS FILE` writes the records of the
+//! file as a records file.
 #![tactic(auto)]
 
 use pdb_symbolizer_lib::{RunError, StatusLine, run_words};

@@ -1,4 +1,4 @@
--- With which status a run ends.
+-- The exit status of a run.
 use Rattle.std.specs.Prelude.{ℕ, Bool, true, false, if◌then◌else◌, Result, Ok, Err}
 use Rattle.clap.specs.declared.error.kind.ErrorKind.{ErrorKind}
 use Rattle.clap.specs.declared.error.kind.ErrorKind.TheVariants as kind
@@ -6,14 +6,14 @@ use Rattle.clap.specs.Values.{kind_of}
 use Rattle.pdb_symbolizer_lib.specs.declared.run_errors.RunError.{RunError}
 use Rattle.pdb_symbolizer_lib.specs.declared.run_errors.RunError.TheVariants as run
 
--- the words ask for the help or the version
+-- whether the command line asks for the help or the version
 abbrev pub asks_for_help : ErrorKind → Bool
 asks_for_help kind.DisplayHelp = true
 asks_for_help kind.DisplayVersion = true
 asks_for_help other = false
 
--- the status of a run that ended early: 0 where the help was asked for or nobody reads any more, 1 where nothing can be
--- answered over a file, and else 2
+-- the exit status of a run that ended early: 0 after help and version or if the reader of the output is gone, 1 if
+-- nothing can be answered over a file, else 2
 abbrev pub status_of : RunError → ℕ
 status_of (run.Words error) = if asks_for_help (kind_of error) then 0 else 2
 status_of run.ClosedPipe = 0
@@ -25,7 +25,7 @@ status_of (run.NoIdentity path) = 1
 status_of run.Unopened = 1
 status_of other = 2
 
--- the status of a run: 0 where it did all that it was asked for
+-- the exit status of a run: 0 if it did all that it was asked for
 abbrev pub exit_status : {A : Type 0} → Result A RunError → ℕ
 exit_status (Ok done) = 0
 exit_status (Err why) = status_of why

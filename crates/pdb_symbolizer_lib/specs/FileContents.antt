@@ -3,7 +3,7 @@ use Rattle.std.specs.Prelude.{ℕ, List, Option, Some, None}
 use Rattle.pdb_symbolizer_lib.specs.declared.file_bytes.FileBytes.{FileBytes}
 use Rattle.pdb_symbolizer_lib.specs.declared.file_bytes.FileBytes.TheVariants.{InMemory, OnDisk}
 
--- the bytes of a file in memory; of one on disk nothing is known before it is read
+-- the bytes of a file in memory; those of a file on disk aren't known before they are read
 abbrev pub known_bytes : {F : Type 0} → FileBytes F → Option (List ℕ)
 known_bytes (InMemory bytes) = Some bytes.items
 known_bytes (OnDisk file file_length stamp) = None

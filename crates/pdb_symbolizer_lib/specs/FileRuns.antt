@@ -13,9 +13,8 @@ use Rattle.pdb_symbolizer_lib.specs.declared.options.Options.{Options}
 use Rattle.pdb_symbolizer_lib.specs.declared.questions.Questions.{Questions}
 use Rattle.pdb_source_urls.specs.SourceUrls.{Urls}
 
--- questions are asked of a file as the options say: of the file as it was named, with these URLs of source files, with
--- addresses relative to where its program is loaded, and with the public names of these records where functions go by
--- them
+-- questions fit the options: they have the file as it was named, these URLs of source files, the image base of the
+-- program, and the public names of these records if functions are renamed by them
 pub record AskOf (options : Options) (path : List ℕ) (urls : Urls) (base : Option ℕ) (records : Records)
     (questions : Questions) : Type 0 where
   pub given : questions.options.now ≡ options
@@ -24,12 +23,12 @@ pub record AskOf (options : Options) (path : List ℕ) (urls : Urls) (base : Opt
   pub loaded : questions.image_base ≡ image_base_of options base
   pub names : (start : ℕ) → known_name questions.names.now start ≡ function_name options records start
 
--- a text answers what is asked, by the frames over all records of a session's file
+-- a text answers a request, by the frames over all repaired records of a session's file
 abbrev pub AnswersOfFile : Questions → SessionFile → List ℕ → List ℕ → Type 0
 AnswersOfFile questions session =
     AnswersText questions (AreFramesOfFile session (flags_of questions.options.now.printer.names))
 
--- what is asked is answered in order: the words of the command line, or where there are none the lines of the input
+-- all requests are answered in order: the words of the command line, or without any the lines of the input
 abbrev pub AnswersAsked : {A E : Type 0} → List (Bor (List ℕ)) → Questions → SessionFile → Option (List ℕ)
     → Result A E → Option (List ℕ) → Option (List ℕ) → Type 0
 AnswersAsked [] questions session input result old new =
@@ -39,7 +38,7 @@ AnswersAsked (word ∷ words) questions session input result old new =
     AnswersInOrder (AnswersOfFile questions session) (words_text questions.options.now.printer.style)
     (map (λ word. word.now) (word ∷ words)) result old new
 
--- a run over a file answers what is asked of it as the options say; or it ends before, and prints nothing
+-- a run over a file answers the requests as the options say; or it ends earlier, and prints nothing
 abbrev pub RunsOver : {A E : Type 0} → Options → List ℕ → Urls → Option ℕ → SessionFile → Option (List ℕ)
     → Result A E → Option (List ℕ) → Option (List ℕ) → Type 0
 RunsOver options path urls base session input result old new =

@@ -1,29 +1,28 @@
--- What is taken from addresses, so that they are relative to where a program is loaded.
+-- What is subtracted from addresses, to make them relative to where a program is loaded.
 use Rattle.std.specs.Prelude.{ℕ, ◌+◌, ◌-◌, ◌%◌, ◌^◌, Option, Some, None, unwrap_or, nat_lt, if◌then◌else◌}
 use Rattle.pdb_symbolizer_lib.specs.declared.image_bases.ImageBase.{ImageBase}
 use Rattle.pdb_symbolizer_lib.specs.declared.options.Base.{Base}
 use Rattle.pdb_symbolizer_lib.specs.declared.options.Base.TheVariants.{Preferred, Relative, At}
 use Rattle.pdb_symbolizer_lib.specs.declared.options.Options.{Options}
 
--- where a program is loaded that wants to be loaded at this address
+-- where a program is loaded; `preferred` is its image base, if it is known
 abbrev pub loaded_at : Base → Option ℕ → Option ℕ
 loaded_at Preferred preferred = preferred
 loaded_at Relative preferred = Some 0
 loaded_at (At address) preferred = Some address
 
--- what is taken from the addresses of a program that wants to be loaded at this address
+-- the base and the adjustment for a program; `preferred` is its image base, if it is known
 abbrev pub image_base_of : Options → Option ℕ → ImageBase
 image_base_of options preferred = record { base = loaded_at options.base preferred; adjust = options.adjust }
 
--- an address of 64 bits less another one, where addresses start again after the last
+-- the difference of two addresses, modulo 2^64
 abbrev pub less : ℕ → ℕ → ℕ
 less address taken = (address + (2 ^ 64 - taken)) % 2 ^ 64
 
--- an address, where it fits 32 bits
+-- an address, if it fits 32 bits
 abbrev pub in_32_bits : ℕ → Option ℕ
 in_32_bits address = if nat_lt address (2 ^ 32) then Some address else None
 
--- an address relative to where the program is loaded, where it can lie in the program: less the base, and less what else
--- is taken from addresses
+-- an address relative to where the program is loaded, if it fits 32 bits: the base and the adjustment are subtracted
 abbrev pub relative : ImageBase → ℕ → Option ℕ
 relative image_base given = in_32_bits (less (less given (unwrap_or image_base.base 0)) image_base.adjust)

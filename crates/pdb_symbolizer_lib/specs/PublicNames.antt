@@ -1,4 +1,4 @@
--- Names of functions by the public symbols that stand where they start.
+-- Names of functions by the public symbols at their starts.
 use Rattle.std.specs.Prelude.{◌&&◌, ℕ, Bool, true, false, List, [], ◌∷◌, Option, Some, None, option_map}
 use Rattle.std.specs.Prelude.{option_and_then, Result, Ok, Err, if◌then◌else◌}
 use Rattle.std.specs.BTreeMap.{BTreeMap, get}
@@ -20,73 +20,74 @@ use Rattle.pdb_answer_printer.specs.declared.printer_options.NameStyle.TheVarian
 use Rattle.pdb_symbolizer_lib.specs.declared.options.Options.{Options}
 use Rattle.pdb_symbolizer_lib.specs.declared.public_names.PublicNames.{PublicNames}
 
--- names are printed with the types of the arguments
+-- whether names are printed with the types of the arguments
 abbrev pub is_signature : NameStyle → Bool
 is_signature Signature = true
 is_signature style = false
 
--- functions go by the names of their public symbols: where that is asked for and names are printed whole
+-- whether functions are renamed by their public symbols: if the options ask for that, and names are printed with
+-- arguments
 abbrev pub shows_decorated_names : Options → Bool
 shows_decorated_names options = options.decorated && is_signature options.printer.names
 
--- the name of a symbol as text, where it is a public symbol that stands at this section offset
+-- the name of a symbol as text, if it is a public symbol at this section offset
 abbrev pub name_at : PdbInternalSectionOffset → Option SymbolData → Option (List ℕ)
 name_at start (Some (Public symbol)) =
     if is_same_section_offset symbol.offset start then Some (lossy symbol.name) else None
 name_at start content = None
 
--- the name of the first public symbol of a list that stands at this section offset
+-- the name of the first public symbol in a list at this section offset
 abbrev pub public_name : List Symbol → PdbInternalSectionOffset → Option (List ℕ)
 public_name [] start = None
 public_name (symbol ∷ symbols) start = option_or (name_at start symbol.content) (public_name symbols start)
 
--- the symbols of the whole program, none where they can't be read
+-- the global symbols; none if they can't be read
 abbrev pub symbols_of : Result SymbolTable StreamError → List Symbol
 symbols_of (Ok table) = table.symbols.items
 symbols_of (Err fault) = []
 
--- the sections of a program, none where they can't be read
+-- the sections of a program; none if they can't be read
 abbrev pub sections_of : Result (List AddressRange) StreamError → List AddressRange
 sections_of (Ok sections) = sections
 sections_of (Err fault) = []
 
--- the name of the first public symbol of these records that stands at a section offset
+-- the name of the first public symbol of these records at a section offset
 abbrev pub public_name_in : Records → PdbInternalSectionOffset → Option (List ℕ)
 public_name_in records start = public_name (symbols_of records.global_symbols) start
 
--- the name by which these options have what starts at a section offset go: its public name, where that is wanted
+-- the public name at a section offset, if the options want it
 abbrev pub wanted_name : Options → Records → PdbInternalSectionOffset → Option (List ℕ)
 wanted_name options records start = if shows_decorated_names options then public_name_in records start else None
 
--- the name in a table of what starts at a section offset, as text
+-- the name in a table at a section offset, as text
 abbrev pub name_in : BTreeMap PdbInternalSectionOffset (List ℕ) → PdbInternalSectionOffset → Option (List ℕ)
 name_in names start = option_map lossy (get section_offset_cmp names start)
 
--- the name that is known of the function that starts at an address: that of the section offset of its start
+-- the known public name of the function that starts at an address
 abbrev pub known_name : PublicNames → ℕ → Option (List ℕ)
 known_name known start =
     option_and_then (name_in known.names) (internal_offset known.address_map (record { 0 = start }))
 
--- the public name of the function that starts at an address, where these options want it
+-- the public name of the function that starts at an address, if the options want it
 abbrev pub function_name : Options → Records → ℕ → Option (List ℕ)
 function_name options records start =
     option_and_then (wanted_name options records)
     (internal_offset (sections_of records.address_map) (record { 0 = start }))
 
--- a frame, which goes by this name where there is one
+-- a frame, renamed if there is a name
 abbrev pub decorated_frame : Option (List ℕ) → FrameInfo → FrameInfo
 decorated_frame name f = record f { function = option_or name f.function }
 
--- frames, of which the last goes by this name where there is one
+-- frames, the last of which is renamed if there is a name
 abbrev pub decorated_last : Option (List ℕ) → List FrameInfo → List FrameInfo
 decorated_last name [] = []
 decorated_last name (f ∷ []) = decorated_frame name f ∷ []
 decorated_last name (f ∷ next ∷ rest) = f ∷ decorated_last name (next ∷ rest)
 
--- the frames of a function, which goes by this name where there is one
+-- the frames of a function, which is renamed if there is a name
 abbrev pub decorated : Option (List ℕ) → FramesInfo → FramesInfo
 decorated name f = record f { frames = decorated_last name f.frames }
 
--- the frames of a function, which goes by its public name where that is known
+-- the frames of a function, which is renamed by its public symbol if that is known
 abbrev pub public_named : PublicNames → FramesInfo → FramesInfo
 public_named known f = decorated (known_name known f.start_rva) f

@@ -3,7 +3,7 @@
 use clap::{Arg, ArgAction, Command};
 use std::alloc::{AllocError, Global};
 
-/// What stands before the help.
+/// The text before the list of options in the help.
 pub const EXAMPLES: &str = "\
 Examples:
   pdb_symbolizer -p app.exe 0x140001136        the functions, files and lines of an address
@@ -21,7 +21,7 @@ Each option may be said again, and the last counts. Options of llvm-symbolizer t
 struct Flag {
     name: &'static str,
     short: Option<char>,
-    /// Another name for it.
+    /// An alternative name of the option.
     alias: Option<&'static str>,
     help: &'static str,
 }
@@ -109,7 +109,7 @@ static FLAGS: [Flag; 12] = [
     },
 ];
 
-/// Options of `llvm-symbolizer` that are taken and change nothing, without a value and with one.
+/// Options of `llvm-symbolizer` that are accepted and change nothing: those without a value, and those with one.
 static IGNORED_FLAGS: [&str; 2] = ["no-untag-addresses", "skip-line-zero"];
 
 static IGNORED_OPTIONS: [&str; 2] = ["default-arch", "dwp"];
@@ -153,7 +153,7 @@ static VALUED: [Valued; 6] = [
     },
 ];
 
-/// The command line with all that it takes.
+/// The command line parser with all options and arguments.
 pub fn command<'a>(alloc: Global) -> Result<Command<'a>, AllocError> {
     let arguments = arguments(alloc)?;
     Command::new(alloc, "pdb_symbolizer")
@@ -189,7 +189,8 @@ fn arguments<'a>(alloc: Global) -> Result<Vec<Arg<'a>>, AllocError> {
     Ok(arguments)
 }
 
-// An option of this name, of which the last one counts, and takes back one that says the contrary.
+// Makes an option with this name. If it is repeated, the last one counts; it also overrides an earlier option that says
+// the contrary.
 fn option<'a>(alloc: Global, name: &'static str) -> Result<Arg<'a>, AllocError> {
     let argument = Arg::new(alloc, name).long(name);
     match name {
@@ -215,17 +216,17 @@ fn flag_argument<'a>(alloc: Global, flag: &Flag) -> Result<Arg<'a>, AllocError> 
     }
 }
 
-// A flag that is not in the help.
+// A flag that the help doesn't list.
 fn hidden_flag<'a>(alloc: Global, name: &'static str) -> Result<Arg<'a>, AllocError> {
     Ok(option(alloc, name)?.action(ArgAction::SetTrue).hide(true))
 }
 
-// An option with a value that is not in the help.
+// An option with a value that the help doesn't list.
 fn hidden_option<'a>(alloc: Global, name: &'static str) -> Result<Arg<'a>, AllocError> {
     Ok(option(alloc, name)?.hide(true))
 }
 
-// `llvm-symbolizer`'s older word for `--inlines` and `--no-inlines`.
+// `llvm-symbolizer`'s older option for `--inlines` and `--no-inlines`.
 fn inlining<'a>(alloc: Global) -> Result<Arg<'a>, AllocError> {
     Ok(
         hidden_option(alloc, "inlining")?

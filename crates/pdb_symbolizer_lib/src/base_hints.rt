@@ -1,14 +1,14 @@
-//! A hint on standard error for addresses that contain the program's base. A PDB file alone doesn't say where that is.
+//! Prints a hint on `--base` if addresses seem to contain the program's base, which a PDB file doesn't say.
 
 use crate::public_names::PublicNames;
 
-/// The addresses at which linkers have programs and DLLs loaded by default.
+/// The default image bases of linkers for programs and DLLs.
 const BASES: [u64; 4] = [0x40_0000, 0x1000_0000, 0x1_4000_0000, 0x1_8000_0000];
 
-/// Addresses below this one contain no base.
+/// The lowest of these bases.
 const LOWEST: u64 = 0x40_0000;
 
-/// The words before the option.
+/// The text of the hint before the option.
 const HINT: &str = "for addresses with the base in them say";
 
 /// Whether the hint was printed already.
@@ -19,7 +19,8 @@ pub enum BaseHint {
 }
 
 impl BaseHint {
-    /// Prints, once, how to give a base, if the address lies in no section, but does so without one of the default bases.
+    /// Prints the hint, at most once, if the address is outside every section but subtracting a default base puts it
+    /// inside one.
     pub fn print<R: Eprint>(&mut self, rt: &R, file: &str, names: &PublicNames, given: u64) {
         if *self == BaseHint::Printed || given < LOWEST || names.lies_in_section(given) {
             return;

@@ -1,4 +1,4 @@
-//! What the words of a command line ask for: which file, which form, which defaults by the program's name.
+//! Parses the command line into `Options`. Some defaults depend on the name under which the program is called.
 
 use crate::arguments::command;
 use crate::identities::ExpectedBuild;
@@ -10,28 +10,28 @@ use pdb_answer_printer::{
 };
 use std::alloc::Global;
 
-/// The option for lines of source files.
+/// The name of the option for source lines.
 const SOURCE_LINES: &str = "print-source-context-lines";
 
-/// Which program's defaults apply, by the name under which this one is called.
+/// The program whose defaults apply, by the name under which this one is called.
 #[derive(Clone, Copy, PartialEq, Eq)]
 pub enum Personality {
-    /// Its own.
+    /// The defaults of `pdb_symbolizer`.
     Own,
-    /// Of `llvm-symbolizer`: digits go by what stands before them.
+    /// The defaults of `llvm-symbolizer`: the prefix of a number says its radix.
     LlvmSymbolizer,
-    /// Of `addr2line`: its form, and functions and inlined functions where they are asked for.
+    /// The defaults of `addr2line`: its output style, and functions and inlined functions only on request.
     Addr2line,
 }
 
-/// What the words of a command line ask for.
+/// Parses the words of a command line. The first one is the program's name.
 pub fn parse<'w>(alloc: Global, words: &'w [String]) -> Result<Options<'w>, RunError> {
     let command = command(alloc)?;
     let matches = command.try_get_matches_from(words)?;
     options_of(alloc, personality_of(words), &matches)
 }
 
-/// Which program's defaults apply, by the first of these words, which is the name of the program that was called.
+/// The program whose defaults apply, by the first word, the name of the program.
 pub fn personality_of(words: &[String]) -> Personality {
     let Some(program) = words.first() else {
         return Personality::Own;
@@ -102,7 +102,7 @@ fn printer_options(
     })
 }
 
-// What names the file: an option, the first word, or else each line.
+// What says which file to open: an option, the first word, or each line of the input.
 fn file_naming(personality: Personality, matches: &ArgMatches<'_>) -> FileNaming {
     match (
         personality,
@@ -126,7 +126,8 @@ fn base(alloc: Global, matches: &ArgMatches<'_>) -> Result<Base, RunError> {
     }
 }
 
-// Where an option names the file, or each line does, digits are as `llvm-symbolizer` has them.
+// How numbers without a prefix are read. If an option or each line names the file, they are read as `llvm-symbolizer`
+// does.
 fn digits(personality: Personality, naming: FileNaming) -> Digits {
     match (personality, naming) {
         (Personality::Addr2line, _) | (Personality::Own, FileNaming::ByWord) => Digits::Hexadecimal,
@@ -134,7 +135,8 @@ fn digits(personality: Personality, naming: FileNaming) -> Digits {
     }
 }
 
-// What is taken from each address, by both options together. That of `llvm-symbolizer` has digits as it has them.
+// The offset that is subtracted from each address: the sum of both options. `--adjust-vma` reads numbers as
+// `llvm-symbolizer` does.
 fn adjustment(alloc: Global, matches: &ArgMatches<'_>) -> Result<u64, RunError> {
     let own = number(alloc, matches, "adjust", Digits::Hexadecimal)?;
     Ok(own.wrapping_add(number(alloc, matches, "adjust-vma", Digits::ByPrefix)?))
@@ -145,7 +147,7 @@ fn source_lines(alloc: Global, matches: &ArgMatches<'_>) -> Result<u32, RunError
     Ok(u32::try_from(lines).unwrap_or(u32::MAX))
 }
 
-// Whether functions that were inlined are answered: as `--inlining` says, else as the flags and the personality do.
+// Whether inlined functions are printed: as `--inlining` says, else as the flags and the program's defaults do.
 fn inlines(
     alloc: Global,
     personality: Personality,
@@ -232,7 +234,7 @@ fn style(
     }
 }
 
-// The number that is the value of an option.
+// The value of an option as a number; 0 if it isn't given.
 fn number(
     alloc: Global,
     matches: &ArgMatches<'_>,

@@ -1,4 +1,4 @@
-//! The words of a run: those of the environment in front of those of the command line.
+//! The words of a run: options from the environment first, and then those of the command line.
 
 use crate::command_line::{Personality, personality_of};
 use crate::response_files::{expand_words, push_words};
@@ -7,8 +7,8 @@ use std::alloc::Global;
 use std::env::{self, VarError};
 use std::rt::{Env, Files};
 
-/// The words that a run is made with: the program's name, the words of the environment variable that goes with that
-/// name, and those of the command line, with the words of each file that one names.
+/// The words of a run: the program's name, the words in the environment variable for that name, and those of the
+/// command line, where each response file is replaced by its words.
 pub fn words_of_run<R: Env + Files + AllocGlobal>(
     rt: &R,
     words: &[String],
@@ -23,7 +23,7 @@ pub fn words_of_run<R: Env + Files + AllocGlobal>(
     Ok(all)
 }
 
-// The name of the environment variable for a program of this name.
+// The environment variable that has options for a program of this name.
 fn variable_of(program: &[String]) -> &'static str {
     match personality_of(program) {
         Personality::Addr2line => "LLVM_ADDR2LINE_OPTS",
@@ -31,7 +31,7 @@ fn variable_of(program: &[String]) -> &'static str {
     }
 }
 
-// Appends the words of an environment variable, if it is there.
+// Appends the words in an environment variable, if it is set.
 fn push_variable<R: Env + Alloc<A = Global>>(
     rt: &R,
     alloc: Global,

@@ -1,4 +1,4 @@
-//! The records file, and the files of modules, that `--export` writes.
+//! Writes the records file and the module files of `--export`.
 
 use crate::options::Export;
 use crate::run_errors::RunError;
@@ -12,7 +12,7 @@ use std::rt::Files;
 use std::time::Clock;
 use std::{fs, io};
 
-/// Writes the records to the files that were asked for, those of modules first.
+/// Writes the records to the files that the options name, the module files first.
 pub fn write_files<R: Files + Eprint + Clock + AllocGlobal>(
     rt: &R,
     status_line: &mut StatusLine,
@@ -38,8 +38,8 @@ fn write_records_file<R: Files + Eprint + Clock + AllocGlobal>(
     write_records(rt.alloc(), &mut file, records, names)
 }
 
-/// Writes a file for each module of which anything is known. Gives the names of the files of all modules, as the
-/// records file at this path has them.
+/// Writes a file for each module that has records. Returns the names of the files of all modules, relative to the
+/// records file.
 fn write_modules<R: Files + Eprint + Clock + AllocGlobal>(
     rt: &R,
     status_line: &mut StatusLine,
@@ -90,7 +90,7 @@ fn write_module_file<R: Files + Eprint + Clock + AllocGlobal>(
     write_module(rt.alloc(), &mut file, info)
 }
 
-/// A new file at this path, empty where there was one.
+/// Creates the file at this path, or empties an existing one.
 fn create<'p, R: Files>(
     rt: &'p R,
     status_line: &'p mut StatusLine,
@@ -114,7 +114,7 @@ fn fault_of(error: &io::Error) -> ExportError {
     }
 }
 
-/// What the outcome of writing to this path means for the run.
+/// Turns an error of writing to this path into the run's error.
 fn written_to(alloc: Global, path: &str, outcome: Result<(), ExportError>) -> Result<(), RunError> {
     match outcome {
         Ok(()) => Ok(()),

@@ -1,4 +1,4 @@
-//! Answers over one file: it is opened, and answers the words of the command line or the lines of an input.
+//! Opens one file, and answers the words of the command line or the lines of the input over it.
 
 ghost use Rattle.std.specs.Prelude.{string_bytes, IfErr};
 ghost use Rattle.pdb_symbolizer_lib.specs.AnsweredRequests.{flags_of};
@@ -42,7 +42,7 @@ pub fn answer_file<R: Files + Input + Print + Eprint + AllocGlobal>(
     }
 }
 
-// Answers what is asked over a file that was opened: the words, or else the lines of this input.
+// Answers over an open file: the words of the command line, or else the lines of this input.
 fn answer_over<R: Files + Eprint + AllocGlobal, W: Output, F: Read + Seek + Drop, T: Read + Drop>(
     rt: &R,
     out: &mut W,

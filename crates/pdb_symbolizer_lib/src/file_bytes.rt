@@ -1,4 +1,4 @@
-//! The bytes of a file: in memory, or in the file, where a range is read as it is asked for.
+//! `FileBytes`: a file whose bytes are in memory, or on disk, where ranges are read when needed.
 
 use crate::file_stamps::FileStamp;
 use pdb_container::{ContainerError, RangeError, Source, other_file};
@@ -7,14 +7,14 @@ use std::fs::{self, Metadata, OpenFile};
 use std::io::{self, Read, Seek, SeekFrom};
 use std::rt::Files;
 
-/// What a PDB file begins with, of every version.
+/// The first bytes of a PDB file, in every version of the format.
 const PDB_FILE: [u8; 14] = *b"Microsoft C/C+";
 
 /// The bytes of a file.
 #[derive(Drop)]
 pub enum FileBytes<F> {
     InMemory(Vec<u8>),
-    /// A PDB file, how many bytes it has, and which file it is.
+    /// An open PDB file, its length in bytes, and its stamp.
     OnDisk(F, usize, FileStamp),
 }
 
@@ -37,7 +37,7 @@ impl<F: Read + Seek + Drop> Source for FileBytes<F> {
 }
 
 impl<F: Read + Seek + Drop> FileBytes<F> {
-    /// How many bytes there are.
+    /// The length of the file in bytes.
     pub fn length(&self) -> usize {
         match self {
             FileBytes::InMemory(bytes) => bytes.len(),
@@ -45,7 +45,7 @@ impl<F: Read + Seek + Drop> FileBytes<F> {
         }
     }
 
-    /// Which file a PDB file on disk is.
+    /// The stamp of a file on disk; `None` for bytes in memory.
     pub fn stamp(&self) -> Option<FileStamp> {
         match self {
             FileBytes::InMemory(_) => None,
@@ -53,7 +53,7 @@ impl<F: Read + Seek + Drop> FileBytes<F> {
         }
     }
 
-    /// Whether the file is a PDB file, or one that isn't read, and not a records file or a program.
+    /// Whether the file is a PDB file, in a supported version or another, and not a records file or a program.
     pub fn is_pdb_file(&self) -> bool {
         match self {
             FileBytes::InMemory(bytes) => is_pdb_file(bytes),
@@ -61,7 +61,7 @@ impl<F: Read + Seek + Drop> FileBytes<F> {
         }
     }
 
-    /// All bytes, in memory.
+    /// Reads all bytes into memory.
     pub fn into_memory(self, alloc: Global) -> io::Result<Vec<u8>> {
         match self {
             FileBytes::InMemory(bytes) => Ok(bytes),
@@ -73,7 +73,7 @@ impl<F: Read + Seek + Drop> FileBytes<F> {
     }
 }
 
-/// Opens a file that the words name. A PDB file is read as it is asked, any other file all at once.
+/// Opens a file that the user names. A PDB file stays on disk, any other file is read into memory.
 pub fn open_bytes<R: Files + AllocGlobal>(rt: &R, path: &str) -> io::Result<FileBytes<R::File>> {
     let mut file = fs::open(rt, path)?;
     let metadata = file.metadata()?;
@@ -84,8 +84,8 @@ pub fn open_bytes<R: Files + AllocGlobal>(rt: &R, path: &str) -> io::Result<File
     Ok(FileBytes::InMemory(read_all(rt.alloc(), &mut file)?))
 }
 
-/// Opens a file that another file names. A folder, a device or a pipe is refused: what is in a file must not have the
-/// reader wait, or read without an end.
+/// Opens a file that another file names. A folder, a device or a pipe is refused: the content of a file must not make
+/// the reader wait, or read without an end.
 pub fn open_regular_bytes<R: Files + AllocGlobal>(
     rt: &R,
     path: &str,
@@ -94,8 +94,8 @@ pub fn open_regular_bytes<R: Files + AllocGlobal>(
     open_bytes(rt, path)
 }
 
-/// The bytes of a file that another file names. One that is longer than so many bytes is refused, as is a folder, a
-/// device or a pipe.
+/// Reads a file that another file names. A file of more than `longest` bytes is refused, as is a folder, a device or a
+/// pipe.
 pub fn read_regular_file<R: Files>(
     rt: &R,
     alloc: Global,
@@ -121,7 +121,7 @@ fn check_regular(metadata: &Metadata) -> io::Result<()> {
     }
 }
 
-// Whether a file of this length begins as a PDB file does. It is left at its start.
+// Whether a file of this length begins as a PDB file does. Leaves the file's position at its start.
 fn begins_as_pdb_file<F: Read + Seek>(file: &mut F, length: u64) -> io::Result<bool> {
     let mut front = [0; 14];
     if length < 14 {
@@ -143,7 +143,7 @@ fn read_all<F: Read>(alloc: Global, file: &mut F) -> io::Result<Vec<u8>> {
     Ok(bytes)
 }
 
-// Whether these are the bytes of a PDB file, or of one that isn't read, and not of a records file.
+// Whether these are the bytes of a PDB file, in a supported version or another, and not of a records file.
 fn is_pdb_file(bytes: &[u8]) -> bool {
     match other_file(bytes) {
         ContainerError::NotAPdbFile => bytes.starts_with(&PDB_FILE),

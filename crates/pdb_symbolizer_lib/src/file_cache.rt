@@ -1,32 +1,32 @@
-//! What is kept of files from one request to the next, by most recent use, up to a number of bytes and of files.
+//! `FileCache`: a value for each file, kept between requests. The least recently used values are dropped at a limit.
 
 use crate::file_stamps::FileStamp;
 use lru::LruCache;
 use std::alloc::{AllocError, Global};
 use std::num::NonZeroUsize;
 
-/// How many files are kept at most.
+/// The maximum number of files with a cached value.
 const FILES: usize = 256;
 
-/// What is kept of a file.
+/// A cached value of a file.
 #[derive(Drop)]
 struct Kept<T> {
     stamp: FileStamp,
-    /// How many bytes it counts for.
+    /// How many bytes the value counts as.
     size: u64,
     value: T,
 }
 
-/// What is kept of files, by the paths that they were opened at.
+/// Cached values of files, by the paths at which the files were opened.
 #[derive(Drop)]
 pub struct FileCache<T> {
     files: LruCache<String, Kept<T>>,
-    /// How many bytes are kept at most.
+    /// The maximum of the values' sizes together, in bytes.
     limit: u64,
 }
 
 impl<T: Drop> FileCache<T> {
-    /// A cache that keeps at most so many bytes, and is empty.
+    /// An empty cache for values of at most `limit` bytes together.
     pub fn new(alloc: Global, limit: u64) -> Result<Self, AllocError> {
         let capacity = NonZeroUsize::new(FILES).unwrap_or(NonZeroUsize::MIN);
         Ok(FileCache {
@@ -35,7 +35,7 @@ impl<T: Drop> FileCache<T> {
         })
     }
 
-    /// What is kept of the file at a path, which stays where it is.
+    /// The value of the file at a path. This doesn't count as a use.
     pub fn peek(&self, path: &str, stamp: FileStamp) -> Option<&T> {
         let kept = self.files.peek(path)?;
         if kept.stamp == stamp {
@@ -45,7 +45,7 @@ impl<T: Drop> FileCache<T> {
         }
     }
 
-    /// What is kept of the file at a path, which from now on was used last.
+    /// The value of the file at a path. This counts as its most recent use.
     pub fn get(&mut self, path: &str, stamp: FileStamp) -> Option<&T> {
         let kept = self.files.get(path)?;
         if kept.stamp == stamp {
@@ -55,7 +55,8 @@ impl<T: Drop> FileCache<T> {
         }
     }
 
-    /// Takes out what is kept of the file at a path. What was kept of another file at that path is dropped.
+    /// Removes and returns the value of the file at a path. If another file was cached at that path, its value is
+    /// dropped.
     pub fn take(&mut self, path: &str, stamp: FileStamp) -> Option<T> {
         let Kept {
             stamp: known,
@@ -65,8 +66,8 @@ impl<T: Drop> FileCache<T> {
         if known == stamp { Some(value) } else { None }
     }
 
-    /// Keeps this of a file, and drops what was used least recently until all fits. What is too large by itself, or
-    /// for which there is no memory, isn't kept.
+    /// Stores a value for a file, and drops the least recently used values until all fit. The value isn't stored if it
+    /// is too large by itself, or if memory runs out.
     pub fn keep(&mut self, path: String, stamp: FileStamp, size: u64, value: T) {
         if !self.has_room_for(size) {
             return;
@@ -75,7 +76,7 @@ impl<T: Drop> FileCache<T> {
         let _ = self.files.put(path, Kept { stamp, size, value });
     }
 
-    // Drops what was used least recently, until at most so many bytes are kept.
+    // Drops the least recently used values until the others take at most `most` bytes.
     fn shrink(&mut self, most: u64) {
         for _ in 0..FILES {
             if self.size() <= most {
@@ -85,17 +86,17 @@ impl<T: Drop> FileCache<T> {
         }
     }
 
-    /// Whether a file that counts for so many bytes can be kept.
+    /// Whether a value of `size` bytes can be stored.
     pub fn has_room_for(&self, size: u64) -> bool {
         size <= self.limit
     }
 
-    /// Of how many files something is kept.
+    /// The number of cached values.
     pub fn count(&self) -> usize {
         self.files.len()
     }
 
-    /// How many bytes are kept.
+    /// The sizes of all cached values together, in bytes.
     pub fn size(&self) -> u64 {
         let mut size = 0u64;
         for (_, kept) in self.files.iter() {

@@ -1,10 +1,10 @@
-//! Which file a path led to when it was opened: another file there, or other bytes in it, have another stamp.
+//! `FileStamp`: identifies the file at a path and its content. Another file, or changed bytes, have another stamp.
 
 use std::fs::{self, Metadata};
 use std::os::unix::fs::MetadataExt;
 use std::rt::Files;
 
-/// Which file was opened, and when its bytes were last changed.
+/// Identifies a file, and the time when its bytes were last changed.
 #[derive(Clone, Copy, PartialEq, Eq)]
 pub struct FileStamp {
     device: u64,
@@ -12,12 +12,12 @@ pub struct FileStamp {
     size: u64,
     /// When the bytes were last written, in seconds and nanoseconds.
     modified: (i64, i64),
-    /// When anything of the file was last changed. Setting back the other time changes this one.
+    /// When the file's status was last changed (`ctime`). It also changes if somebody sets `modified` back.
     changed: (i64, i64),
 }
 
 impl FileStamp {
-    /// The stamp of the regular file at a path.
+    /// The stamp of the file at a path; `None` if there is no regular file.
     pub fn at<R: Files>(rt: &R, path: &str) -> Option<FileStamp> {
         match fs::metadata(rt, path) {
             Ok(metadata) if metadata.is_file() => Some(FileStamp::of(&metadata)),

@@ -1,4 +1,4 @@
-//! Names of the files in folders, to find those that differ from a name only in the case of letters.
+//! `FolderListings`: the names in folders, to find files whose names differ only in case.
 
 use crate::run_errors::RunError;
 use pdb_records_files::ran_out_of_memory;
@@ -7,16 +7,16 @@ use std::collections::BTreeMap;
 use std::io::{self, Read};
 use std::rt::Files;
 
-/// How many bytes of names are read at once. Each name fits.
+/// The size of the buffer for names, in bytes. Each name fits.
 const CAPACITY: usize = 8192;
 
-/// What stands between two names.
+/// The character after each name that a folder lists.
 const END: char = '\0';
 
-/// The names in a folder, by what they are in small letters.
+/// The names in a folder, by their lowercase forms.
 type Listing = BTreeMap<String, Vec<String>>;
 
-/// Folders that were listed for a request, each once.
+/// The listings of the folders that one request looked in. Each folder is listed once.
 #[derive(Drop)]
 pub struct FolderListings {
     alloc: Global,
@@ -24,7 +24,7 @@ pub struct FolderListings {
 }
 
 impl FolderListings {
-    /// None yet.
+    /// No listings.
     pub fn new(alloc: Global) -> Self {
         FolderListings {
             alloc,
@@ -32,8 +32,8 @@ impl FolderListings {
         }
     }
 
-    /// The paths of all that a folder has under this name in either case of its letters from A to Z. They are in the
-    /// order of their bytes.
+    /// The paths of all entries of a folder whose names equal `name` except for the case of the letters A to Z. They
+    /// are sorted by their bytes.
     pub fn paths_named<R: Files>(
         &mut self,
         rt: &R,
@@ -53,7 +53,7 @@ impl FolderListings {
         Ok(())
     }
 
-    // The paths in a folder that was listed.
+    // The same for a folder that was listed before.
     fn paths_of(&self, folder: &str, name: &str) -> Result<Vec<String>, AllocError> {
         let mut paths = Vec::new(self.alloc);
         let Some(listing) = self.folders.get(folder) else {
@@ -70,7 +70,7 @@ impl FolderListings {
     }
 }
 
-// Lists a folder. One that can't be listed has no names.
+// Lists a folder. If it can't be read, the listing is empty.
 fn list<R: Files>(rt: &R, alloc: Global, folder: &str) -> Result<Listing, RunError> {
     match read_names(rt, alloc, folder) {
         Ok(names) => Ok(listing_of(alloc, &names)?),
@@ -79,7 +79,7 @@ fn list<R: Files>(rt: &R, alloc: Global, folder: &str) -> Result<Listing, RunErr
     }
 }
 
-// These names, each with an end, by what they are in small letters.
+// Makes a listing from names that each end with `END`.
 fn listing_of(alloc: Global, names: &[u8]) -> Result<Listing, AllocError> {
     let mut listing = BTreeMap::new(alloc);
     let text = String::from_utf8_lossy(alloc, names)?;
@@ -100,7 +100,7 @@ fn add_name(alloc: Global, listing: &mut Listing, name: &str) -> Result<(), Allo
     Ok(())
 }
 
-// The names in a folder, each with an end.
+// Reads the names in a folder, each followed by `END`.
 fn read_names<R: Files>(rt: &R, alloc: Global, folder: &str) -> io::Result<Vec<u8>> {
     let path = format!(in alloc; "{folder}/")?;
     let mut folder = rt.open_dir(path.as_str())?;

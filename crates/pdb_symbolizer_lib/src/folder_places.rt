@@ -1,4 +1,4 @@
-//! Where the PDB file of a name and a debug id may be in the folders of `--pdb-dir`, which may be symbol stores.
+//! The paths at which a PDB file may be in the folders of `--pdb-dir`, which may be symbol stores.
 
 use crate::folder_listings::FolderListings;
 use crate::options::Options;
@@ -15,21 +15,21 @@ pub struct WantedFile<'w> {
     pub debug_id: DebugId,
 }
 
-/// How a folder may have PDB files below it.
+/// How PDB files may be arranged in a folder.
 #[derive(Clone, Copy)]
 pub enum Layout {
     /// `app.pdb`.
     Flat,
     /// `app.pdb/ID/app.pdb`, as in a symbol store.
     OneTier,
-    /// `ap/app.pdb/ID/app.pdb`, as in a symbol store that says so.
+    /// `ap/app.pdb/ID/app.pdb`, as in a symbol store that has a file `index2.txt`.
     TwoTiers,
 }
 
-/// The layouts, in the order in which they are tried in a folder.
+/// All layouts, in the order in which they are tried.
 pub const LAYOUTS: [Layout; 3] = [Layout::Flat, Layout::OneTier, Layout::TwoTiers];
 
-/// The path at which a folder of this layout has a file, whose debug id is this text.
+/// The path of a file in a folder of this layout. `id` is the debug id as `id_text` writes it.
 pub fn place_by<R: Files + AllocGlobal>(
     rt: &R,
     dir: &str,
@@ -43,7 +43,7 @@ pub fn place_by<R: Files + AllocGlobal>(
     }
 }
 
-// The folder in which a folder of this layout has a file.
+// The subfolder that has the file in a folder of this layout.
 fn folder_by<R: Files + AllocGlobal>(
     rt: &R,
     dir: &str,
@@ -64,7 +64,7 @@ fn folder_by<R: Files + AllocGlobal>(
     }
 }
 
-/// Adds the paths at which a file is looked for first: under names as they are asked for.
+/// Appends the paths at which a file is looked for first: with the wanted name as it is.
 pub fn push_places<R: Files + AllocGlobal>(
     rt: &R,
     places: &mut Vec<String>,
@@ -77,7 +77,7 @@ pub fn push_places<R: Files + AllocGlobal>(
     Ok(())
 }
 
-/// The paths at which it is looked for then: under names that differ from those in the case of letters.
+/// The paths at which a file is looked for next: with names that differ from the wanted one in case.
 pub fn other_places<R: Files + AllocGlobal>(
     rt: &R,
     listings: &mut FolderListings,
@@ -97,8 +97,7 @@ pub fn other_places<R: Files + AllocGlobal>(
     Ok(others)
 }
 
-/// The path of the file as a symbol server compresses it, if there is one: with `_` in place of the last letter of its
-/// name.
+/// The path of the file as a symbol server compresses it, if it is there. Its name has `_` in place of the last letter.
 pub fn find_compressed<R: Files + AllocGlobal>(
     rt: &R,
     listings: &mut FolderListings,
@@ -125,7 +124,8 @@ pub fn find_compressed<R: Files + AllocGlobal>(
     Ok(None)
 }
 
-// The folders in which a file may be: those of the options, and in each those that a symbol store has for the file.
+// The folders in which a file may be: those of the options, and the subfolders that a symbol store in them has for the
+// file.
 fn folders<R: Files + AllocGlobal>(
     rt: &R,
     options: &Options<'_>,
@@ -143,7 +143,7 @@ fn folders<R: Files + AllocGlobal>(
     Ok(folders)
 }
 
-// The same under names in any case. Those of the options are as they are.
+// These folders, with subfolders whose names may differ in case.
 fn folders_in_any_case<R: Files + AllocGlobal>(
     rt: &R,
     listings: &mut FolderListings,
@@ -165,7 +165,7 @@ fn folders_in_any_case<R: Files + AllocGlobal>(
     Ok(folders)
 }
 
-// Adds the folders below this one that a symbol store has for a file, under names in any case.
+// Appends the subfolders that a symbol store in `root` has for a file. Their names may differ in case.
 fn push_store_folders<R: Files + AllocGlobal>(
     rt: &R,
     listings: &mut FolderListings,
@@ -182,18 +182,19 @@ fn push_store_folders<R: Files + AllocGlobal>(
     Ok(())
 }
 
-/// A debug id as it is the name of a folder of a symbol store.
+/// A debug id as symbol stores name a folder by it.
 pub fn id_text(alloc: Global, debug_id: DebugId) -> Result<String, AllocError> {
     format!(in alloc; "{}", debug_id.compact())
 }
 
-// Whether a symbol store has its files in folders by the first letters of their names, as its file `index2.txt` says.
+// Whether a symbol store has an upper level of folders named by the first letters of files. A file `index2.txt` says
+// so.
 fn has_two_tiers<R: Files + AllocGlobal>(rt: &R, store: &str) -> Result<bool, AllocError> {
     let path = format!(in rt.alloc(); "{store}/index2.txt")?;
     Ok(is_regular_file(rt, path.as_str()))
 }
 
-// The first two letters of a name, or all of a shorter one. `None` where they would lead out of the store.
+// The first two letters of a name, or all of a shorter one. `None` if a folder of that name would be outside the store.
 fn first_letters(name: &str) -> Option<&str> {
     let letters = match name.char_indices().nth(2) {
         Some((end, _)) => name.get(..end)?,

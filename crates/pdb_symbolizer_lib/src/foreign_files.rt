@@ -1,19 +1,19 @@
-//! Files that are none of those that are read, by what they begin with.
+//! `ForeignFile`: the kind of a file that can't be read, by its first bytes.
 
 use std::fmt;
 
-/// What a file is that is no program of Windows, no PDB file and no records file.
+/// The kind of a file that isn't a Windows program, a PDB file or a records file.
 #[derive(Debug, Clone, Copy, PartialEq, Eq)]
 pub enum ForeignFile {
     Elf,
     MachO,
-    /// A PDB file as newer tools of Microsoft compress it.
+    /// A PDB file in the compressed form of newer Microsoft tools.
     Msfz,
     Unknown,
 }
 
 impl ForeignFile {
-    /// What a file with these bytes is, unless it begins as a records file does.
+    /// The kind of a file with these bytes. `None` if it begins as a records file does.
     pub fn of_bytes(bytes: &[u8]) -> Option<ForeignFile> {
         if bytes.starts_with(b"\x7fELF") {
             return Some(ForeignFile::Elf);

@@ -1,4 +1,4 @@
-//! The answer of one request: the frames of an address of code, or that nothing is known.
+//! The answer to one request: the frames at a code address, or that nothing is known.
 
 ghost use Rattle.std.specs.Prelude.{◌≡◌, List, IfErr, IfOk, option_map, string_bytes};
 ghost use Rattle.pdb_answer_printer.specs.AnswerText.{answer_text, unknown_text};
@@ -25,7 +25,7 @@ use pdb_source_urls::SourceUrls;
 use std::alloc::{AllocError, Global};
 use std::rt::Files;
 
-/// The answer of a text that asks for something.
+/// Answers a request, which is a word of the command line or a line of the input.
 pub fn request_text<R: Files + Eprint + AllocGlobal>(
     rt: &R,
     questions: &Questions<'_, '_>,
@@ -43,7 +43,7 @@ pub fn request_text<R: Files + Eprint + AllocGlobal>(
     answer_request(rt, questions, context, state, &request, given)
 }
 
-/// The answer of a request, which this text was.
+/// Answers a parsed request. `given` is its text.
 fn answer_request<R: Files + Eprint + AllocGlobal>(
     rt: &R,
     questions: &Questions<'_, '_>,
@@ -70,7 +70,7 @@ fn answer_request<R: Files + Eprint + AllocGlobal>(
     }
 }
 
-// The answer of a request of which nothing is known.
+// The text of an answer that says that nothing is known.
 fn text_of_unknown(
     alloc: Global,
     options: &Options<'_>,
@@ -83,7 +83,7 @@ fn text_of_unknown(
     Ok(text)
 }
 
-/// Says on standard error why a text asks for nothing, unless it is empty.
+/// Says on standard error why a text isn't a request, unless it is empty.
 pub fn print_lack<R: Eprint>(rt: &R, request: &InputLine<'_>, given: &str) {
     if let InputTarget::Nowhere(lack) = request.place
         && let Some(why) = lack.words()
@@ -92,7 +92,7 @@ pub fn print_lack<R: Eprint>(rt: &R, request: &InputLine<'_>, given: &str) {
     }
 }
 
-// The answer for an address of code, with the URLs and lines of source files that the options ask for.
+// The text of the answer for a code address, with the URLs and lines of source files that the options ask for.
 fn text_of_found<R: Files + AllocGlobal>(
     rt: &R,
     questions: &Questions<'_, '_>,
@@ -113,8 +113,8 @@ fn text_of_found<R: Files + AllocGlobal>(
     Ok(text)
 }
 
-// What is printed of the source file of each frame: its URL, and the lines around the frame's line. Either is empty if the
-// options don't ask for it.
+// The URL of each frame's source file, and the source lines around the frame's line. Either is empty if the options don't
+// ask for it.
 fn sources_of<R: Files + AllocGlobal>(
     rt: &R,
     questions: &Questions<'_, '_>,
@@ -163,7 +163,7 @@ fn lines_around<R: Files + AllocGlobal>(
         .around(rt, file, frame.line.unwrap_or(0), count)
 }
 
-/// The frames of an address, of which the last has the name that the options want.
+/// The frames at an address. The last one, the containing function, is named as the options want.
 fn frames_at<'a, R: Eprint + AllocGlobal>(
     rt: &R,
     questions: &Questions<'_, '_>,
@@ -187,7 +187,7 @@ fn frames_at<'a, R: Eprint + AllocGlobal>(
     Ok(public_named(rt.alloc(), questions.names, found)?)
 }
 
-// Frames whose function goes by its public name, where that is known.
+// Gives the containing function its public symbol's name, if the options want that name and it is known.
 fn public_named<'a>(
     alloc: Global,
     names: &PublicNames,
@@ -201,8 +201,8 @@ fn public_named<'a>(
     }
 }
 
-// The frames of an address. Where the records of its module can't be read that is shown on standard error, with the
-// address as it was given.
+// The frames at an address. If its module's records can't be read, an error on standard error shows the address as it
+// was given.
 fn readable_frames<'a, R: Eprint>(
     rt: &R,
     context: &mut SessionContext<'a, '_>,

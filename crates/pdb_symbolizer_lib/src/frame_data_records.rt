@@ -1,4 +1,4 @@
-//! The STACK WIN records of a symbol file and the sizes of parameters, by the frame data of a PDB file for x86.
+//! The STACK WIN records of a symbol file and the sizes of parameters, from the frame data of a PDB file for x86.
 
 use crate::input_files::{SourceFile, open_error};
 use crate::run_errors::RunError;
@@ -13,17 +13,17 @@ use std::io::{Read, Seek};
 /// The machine of programs for x86.
 const X86: Machine = Machine(0x14c);
 
-/// What a symbol file has by which callers are found.
+/// The unwind records of a symbol file, by which a debugger finds callers.
 #[derive(Drop)]
 pub struct FrameRecords {
     /// The STACK WIN and STACK CFI records.
     pub text: String,
-    /// How many bytes of parameters the code at an address takes from the stack.
+    /// How many bytes of parameters the function at an address takes from the stack.
     pub parameters: Segments<u32>,
 }
 
-/// The STACK WIN records of a PDB file for x86 and its sizes of parameters; none of other files. An entry that has no
-/// record has a line on standard error.
+/// The STACK WIN records and the sizes of parameters of a PDB file for x86; empty for other machines. Prints a line on
+/// standard error for each entry that gets no record.
 pub fn frame_data_records<R: Eprint + AllocGlobal, F: Read + Seek + Drop>(
     rt: &R,
     source: &mut SourceFile<F>,
@@ -45,7 +45,7 @@ pub fn frame_data_records<R: Eprint + AllocGlobal, F: Read + Seek + Drop>(
     }
 }
 
-// The records, with the sizes of parameters by addresses.
+// The records, with a table of the parameter sizes by address.
 fn frame_records(alloc: Global, records: StackWinRecords) -> Result<FrameRecords, AllocError> {
     Ok(FrameRecords {
         parameters: Segments::from_overlapping(alloc, &records.parameter_sizes)?,

@@ -1,4 +1,4 @@
-//! Which build files are of: the lines of `--show-id`, and the check of `--expect-id`.
+//! The build that a file belongs to: the lines of `--show-id`, and the check of `--expect-id`.
 
 use crate::file_bytes::FileBytes;
 use crate::input_files::{open_error, open_named_file};
@@ -12,17 +12,17 @@ use std::io::{Read, Seek};
 use std::rt::Files;
 use uuid::Uuid;
 
-/// The build that a file has to be of.
+/// The build that a file must belong to.
 #[derive(Debug, Clone, Copy)]
 pub enum ExpectedBuild {
-    /// That of this GUID and this age.
+    /// The build with this GUID and this age.
     Exact(DebugId),
-    /// Any of the GUID.
+    /// Any build with this GUID.
     AnyAge(Uuid),
 }
 
 impl ExpectedBuild {
-    /// The build of a debug id in either form, or of a GUID alone.
+    /// Parses a debug id in either form, or a GUID alone.
     pub fn parse(text: &str) -> Option<ExpectedBuild> {
         if let Some(id) = DebugId::parse(text) {
             return Some(ExpectedBuild::Exact(id));
@@ -53,8 +53,7 @@ impl fmt::Display for ExpectedBuild {
     }
 }
 
-/// Prints a line for each file that the words name, PDB files and programs: its path, its debug id, its age and its
-/// machine.
+/// Prints a line for each PDB file or program on the command line: its path, its debug id, its age and its machine.
 pub fn print_identities<R: Files + Print + AllocGlobal>(
     rt: &R,
     options: &Options<'_>,
@@ -109,7 +108,7 @@ fn print_line<R: Print>(
     }
 }
 
-/// Refuses a PDB file of another build than is expected, if one is.
+/// Refuses a PDB file if the options expect another build.
 pub fn check_identity<F: Read + Seek + Drop>(
     alloc: Global,
     options: &Options<'_>,
@@ -137,7 +136,7 @@ fn identity_of<F: Read + Seek + Drop>(
     }
 }
 
-/// Which build a PDB file is of, if it says so.
+/// The identity of a PDB file: its debug id and machine. `None` if the file doesn't say it.
 pub fn identity_in<F: Read + Seek + Drop>(
     alloc: Global,
     file: &str,

@@ -1,20 +1,20 @@
-//! What addresses are relative to where a program is loaded.
+//! `ImageBase`: turns given addresses into addresses relative to where the program is loaded.
 
 ghost use Rattle.std.specs.Prelude.{◌≡◌};
 ghost use Rattle.pdb_symbolizer_lib.specs.ImageBases.{loaded_at, relative};
 
 use crate::options::Base;
 
-/// What is taken from addresses, so that they are relative to where the program is loaded.
+/// The base and the adjustment that are subtracted from given addresses.
 #[derive(Clone, Copy)]
 pub struct ImageBase {
-    /// Where the program is loaded, where anything says that.
+    /// Where the program is loaded, if that is known.
     base: Option<u64>,
     adjust: u64,
 }
 
 impl ImageBase {
-    /// The origin for a file, which wants to be loaded at this address if it is a program.
+    /// The base for a file. `preferred` is the image base of a program, or `None`.
     pub fn new(base: Base, preferred: Option<u64>, adjust: u64) -> ImageBase
         ensures base { result.base ≡ loaded_at base preferred }
         ensures adjust { result.adjust ≡ adjust }
@@ -32,7 +32,7 @@ impl ImageBase {
         self.base.is_some()
     }
 
-    /// The address relative to where the program is loaded, where it can lie in the program.
+    /// The address relative to where the program is loaded; `None` if it doesn't fit 32 bits.
     pub fn relative(self, given: u64) -> Option<u32>
         ensures { result ≡ relative self given }
     {

@@ -1,4 +1,4 @@
-//! The file that the words name: its bytes, and the records of a PDB file or of a records file with its module files.
+//! Opens the file that the user names, and reads all records of a PDB file or of a records file with its module files.
 
 ghost use Rattle.pdb_symbolizer_lib.specs.EarlyEnds.{EndsRead};
 
@@ -22,24 +22,24 @@ use std::fs;
 use std::io::{self, Read, Seek};
 use std::rt::Files;
 
-/// What is known of a file beside its bytes.
+/// A file's path, and the image base and id of the program for which it was found.
 #[derive(Drop)]
 pub struct NamedFile {
     pub path: String,
-    /// Where the program wants to be loaded, if one was named, and which build it is of.
+    /// The image base of the program, if the user named a program.
     pub image_base: Option<u64>,
     pub code_id: Option<CodeId>,
 }
 
-/// A file that was named, or the PDB file that was found for it.
+/// A file that the user named, or the PDB file that was found for a program.
 #[derive(Drop)]
 pub struct SourceFile<F> {
     pub file: NamedFile,
     pub bytes: FileBytes<F>,
 }
 
-/// Opens a file: a PDB file, a records file, or the PDB file of a program, which is looked for. A file of another build
-/// than is expected is refused before anything else of it is read.
+/// Opens a PDB file or a records file, or finds and opens the PDB file of a program. If the options expect another
+/// build, the file is refused before anything else of it is read.
 pub fn find_file<R: Files + Eprint + AllocGlobal>(
     rt: &R,
     status_line: &StatusLine,
@@ -52,7 +52,8 @@ pub fn find_file<R: Files + Eprint + AllocGlobal>(
     }
 }
 
-/// The same of a file that a line of input names. A program that was read for an earlier line isn't read again.
+/// Like `find_file`, for a file that a line of the input names. A program that was read for an earlier line isn't read
+/// again.
 pub fn find_file_of_line<R: Files + Eprint + AllocGlobal>(
     rt: &R,
     status_line: &StatusLine,
@@ -77,7 +78,7 @@ pub fn find_file_of_line<R: Files + Eprint + AllocGlobal>(
     found
 }
 
-// A file that the words or a line name.
+// A file that a word or a line names.
 #[derive(Drop)]
 enum Named<F> {
     Program(KnownProgram),
@@ -111,7 +112,7 @@ fn named_source<R: AllocGlobal, F: Read + Seek + Drop>(
     check_source(rt.alloc(), options, source)
 }
 
-// Opens a file that the words name.
+// Opens a file that the user names.
 pub fn open_named_file<R: Files + AllocGlobal>(
     rt: &R,
     path: &str,
@@ -122,7 +123,7 @@ pub fn open_named_file<R: Files + AllocGlobal>(
     }
 }
 
-// The PDB file of a program.
+// Finds the PDB file of a program.
 fn find_for_program<R: Files + AllocGlobal>(
     rt: &R,
     options: &Options<'_>,
@@ -135,7 +136,7 @@ fn find_for_program<R: Files + AllocGlobal>(
     check_source(rt.alloc(), options, found)
 }
 
-// A file, unless it is of another build than is expected.
+// Returns the file, unless the options expect another build.
 fn check_source<F: Read + Seek + Drop>(
     alloc: Global,
     options: &Options<'_>,
@@ -145,8 +146,8 @@ fn check_source<F: Read + Seek + Drop>(
     Ok(source)
 }
 
-/// The records of a file, all at once: of a PDB file, of a records file with its module files, or of a program, whose
-/// PDB file is looked for.
+/// Reads all records at once: of a PDB file, of a records file with its module files, or of the PDB file that is found
+/// for a program.
 pub fn read_all_records<R: Files + Eprint + AllocGlobal>(
     rt: &R,
     status_line: &StatusLine,
@@ -167,7 +168,7 @@ pub fn read_all_records<R: Files + Eprint + AllocGlobal>(
 }
 
 impl<F: Read + Seek + Drop> SourceFile<F> {
-    /// A file by itself.
+    /// A file that wasn't found for a program.
     pub fn new(path: String, bytes: FileBytes<F>) -> Self {
         let file = NamedFile {
             path,
@@ -177,7 +178,7 @@ impl<F: Read + Seek + Drop> SourceFile<F> {
         SourceFile { file, bytes }
     }
 
-    /// All bytes of the file, and what is known of it beside them.
+    /// Reads all bytes of the file.
     pub fn read(self, alloc: Global) -> Result<(NamedFile, Vec<u8>), RunError> {
         let SourceFile { file, bytes } = self;
         match bytes.into_memory(alloc) {
@@ -195,7 +196,7 @@ fn container_error(alloc: Global, path: &str, fault: ContainerError) -> RunError
     }
 }
 
-/// Why a run ends over a file that can't be opened.
+/// The error of a run whose file can't be opened.
 pub fn open_error(alloc: Global, path: &str, fault: OpenError) -> RunError {
     match fault {
         OpenError::Container(fault) => container_error(alloc, path, fault),
@@ -203,7 +204,7 @@ pub fn open_error(alloc: Global, path: &str, fault: OpenError) -> RunError {
     }
 }
 
-/// Why a run ends over a file that can't be read further.
+/// The error of a run whose file was opened but can't be read to its end.
 pub fn unreadable(alloc: Global, path: &str) -> RunError
     ensures { EndsRead path.now result }
 {
@@ -220,7 +221,7 @@ fn cannot_read(alloc: Global, path: &str, error: io::Error) -> RunError {
     }
 }
 
-/// The records of a records file and of its module files.
+/// Reads the records of a records file and of its module files.
 pub fn read_records_file<R: Files + AllocGlobal>(
     rt: &R,
     path: &str,
@@ -250,7 +251,7 @@ fn read_module_records<R: Files + AllocGlobal>(
     }
 }
 
-/// The bytes of a file that the words name.
+/// Reads all bytes of a file that the user names.
 pub fn read_file<R: Files + AllocGlobal>(rt: &R, path: &str) -> Result<Vec<u8>, RunError> {
     match fs::read(rt, path) {
         Ok(bytes) => Ok(bytes),
@@ -258,7 +259,7 @@ pub fn read_file<R: Files + AllocGlobal>(rt: &R, path: &str) -> Result<Vec<u8>, 
     }
 }
 
-/// Why a run ends over a records file whose module files can't be read.
+/// The error of a run whose module files can't be read.
 fn module_file_error(alloc: Global, path: &str, fault: ModuleFileError) -> RunError {
     match fault {
         ModuleFileError::OutOfMemory => RunError::Refused(Error::OutOfMemory),

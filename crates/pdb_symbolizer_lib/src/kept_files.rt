@@ -1,4 +1,4 @@
-//! PDB files that stay open from one request to the next, and what is known of files that were looked at.
+//! `KeptFiles`: PDB files that stay open between requests, and cached debug ids of files.
 
 use crate::file_cache::FileCache;
 use crate::file_stamps::FileStamp;
@@ -13,17 +13,17 @@ use std::alloc::{AllocError, Global};
 use std::io::{Read, Seek};
 use std::rt::Files;
 
-/// The debug ids of files that were looked at, so that they aren't read again.
+/// Debug ids of files whose headers were read, so that they aren't read again.
 pub type KnownIds = FileCache<DebugId>;
 
-/// A file that stays open, with the texts that requests asked for.
+/// An open file, with the texts that requests asked for.
 #[derive(Drop)]
 struct KeptFile<F: Read + Seek + Drop> {
     file: OpenedFile<F>,
     texts: KnownTexts,
 }
 
-/// The files that stay open.
+/// The files that stay open between requests.
 #[derive(Drop)]
 pub struct KeptFiles<F: Read + Seek + Drop> {
     files: FileCache<KeptFile<F>>,
@@ -31,7 +31,7 @@ pub struct KeptFiles<F: Read + Seek + Drop> {
 }
 
 impl<F: Read + Seek + Drop> KeptFiles<F> {
-    /// None yet. Those that are kept take at most so many bytes.
+    /// No files. Open files will take at most `limit` bytes of memory.
     pub fn new(alloc: Global, limit: u64) -> Result<Self, AllocError> {
         Ok(KeptFiles {
             files: FileCache::new(alloc, limit)?,
@@ -39,17 +39,17 @@ impl<F: Read + Seek + Drop> KeptFiles<F> {
         })
     }
 
-    /// How many files are open.
+    /// The number of open files.
     pub fn count(&self) -> usize {
         self.files.count()
     }
 
-    /// How many bytes they take.
+    /// How many bytes of memory the open files take, by an estimate.
     pub fn size(&self) -> u64 {
         self.files.size()
     }
 
-    /// The texts of the file at a path that requests asked for, if that file is open.
+    /// The cached texts of the file at a path, if that file is open.
     pub fn texts_at(&mut self, path: &str, stamp: FileStamp) -> Option<&KnownTexts> {
         match self.files.get(path, stamp) {
             Some(kept) => Some(&kept.texts),
@@ -58,16 +58,16 @@ impl<F: Read + Seek + Drop> KeptFiles<F> {
     }
 }
 
-/// A file in use, and which one it is, if it may stay open.
+/// A file in use, and its stamp if it may stay open.
 #[derive(Drop)]
 pub struct UsedFile<F: Read + Seek + Drop> {
     pub file: OpenedFile<F>,
-    /// The texts that requests asked for.
+    /// The texts at offsets that requests asked for.
     pub texts: KnownTexts,
     stamp: Option<FileStamp>,
 }
 
-/// Opens a file that was found, unless it is open still.
+/// Opens a file that was found, or takes it out of the open files if it is there.
 pub fn open_used<R: Files + Eprint + AllocGlobal>(
     rt: &R,
     options: &Options<'_>,
@@ -97,7 +97,7 @@ fn take<F: Read + Seek + Drop>(
     files.files.take(named.path.as_str(), stamp?)
 }
 
-// A file that is open still, with what is known beside its records by the name that it was found by this time.
+// An open file, with the path, image base and program id by which it was found this time.
 fn file_as_named<F: Read + Seek + Drop>(file: OpenedFile<F>, named: NamedFile) -> OpenedFile<F> {
     let OpenedFile {
         path: _,
@@ -121,7 +121,7 @@ fn file_as_named<F: Read + Seek + Drop>(file: OpenedFile<F>, named: NamedFile) -
 }
 
 impl<F: Read + Seek + Drop> UsedFile<F> {
-    /// Leaves the file open for the next request, where it may stay so.
+    /// Keeps the file open for the next request, if it may stay open and there is room.
     pub fn keep(self, alloc: Global, files: &mut KeptFiles<F>) {
         let UsedFile { file, texts, stamp } = self;
         let Some(stamp) = stamp else {

@@ -1,4 +1,4 @@
-//! Modules whose files are open still, and of which all that a request asks for was asked for before.
+//! Answers for modules from cached texts, if their file is open and a request asks for nothing new.
 
 use crate::file_stamps::FileStamp;
 use crate::folder_places::{LAYOUTS, id_text, place_by};
@@ -8,18 +8,18 @@ use pdb_symbolication::{FrameTexts, WantedModule};
 use std::alloc::AllocError;
 use std::rt::Files;
 
-/// What is known of the place at which a module's file may be.
+/// The result of checking one path for a module's cached texts.
 #[derive(Drop)]
 enum KnownPlace {
-    /// All that is asked for.
+    /// The module's file is open, and these are all the texts that are asked for.
     Texts(FrameTexts),
-    /// No file of the module is there.
+    /// The file of the module isn't at this path.
     Elsewhere,
-    /// Not enough.
+    /// The file may be here, but not all texts are cached.
     Unknown,
 }
 
-/// The texts of a module, if they are known. Its file is the first in the folders that has its name and its debug id.
+/// The texts of a module, if all are cached. The module's file is the first in the folders with its name and debug id.
 pub fn known_texts<R: Files + AllocGlobal>(
     rt: &R,
     options: &Options<'_>,

@@ -1,14 +1,14 @@
-//! What is known of a program: where it wants to be loaded, which build it is of, and which PDB file it names.
+//! `KnownProgram`: a program's image base, its id, and the PDB file that it names.
 
 use crate::file_cache::FileCache;
 use crate::run_errors::RunError;
 use pdb_identity::{CodeId, CodeView, DebugId, read_program};
 use std::alloc::Global;
 
-/// What a program takes without the path of its PDB file.
+/// How many bytes a cached program counts as, without the path of its PDB file.
 const SIZE: u64 = 1024;
 
-/// What is known of a program that names its PDB file.
+/// What is needed of a program that names its PDB file.
 #[derive(Drop)]
 pub struct KnownProgram {
     pub image_base: u64,
@@ -17,11 +17,11 @@ pub struct KnownProgram {
     pdb_path: Vec<u8>,
 }
 
-/// What is known of programs, from one line of input to the next.
+/// Programs that earlier lines of the input named.
 pub type KnownPrograms = FileCache<KnownProgram>;
 
 impl KnownProgram {
-    /// What these bytes say of a program. `None` of any other file, and an error where it names no PDB file.
+    /// Reads a program from its bytes. `None` if the file isn't a program; an error if the program names no PDB file.
     pub fn of_bytes(alloc: Global, path: &str, bytes: &[u8]) -> Result<Option<Self>, RunError> {
         let program = match read_program(alloc, bytes) {
             Ok(Some(program)) => program,
@@ -39,12 +39,12 @@ impl KnownProgram {
         }))
     }
 
-    /// How many bytes it counts for.
+    /// How many bytes the program counts as in the cache.
     pub fn size(&self) -> u64 {
         SIZE.saturating_add(self.pdb_path.len() as u64)
     }
 
-    /// What it says of its PDB file.
+    /// The program's CodeView record, which names its PDB file.
     pub fn code_view(&self) -> CodeView<'_> {
         CodeView {
             debug_id: self.debug_id,

@@ -1,22 +1,22 @@
-//! The texts at offsets of a file that were asked for before, for answers to the next requests.
+//! `KnownTexts`: cached texts at the offsets of a file that earlier requests asked for.
 
 use pdb_symbolication::{FrameText, FrameTexts};
 use std::alloc::{AllocError, Global};
 use std::collections::BTreeMap;
 
-/// What a text takes beside its bytes.
+/// How many bytes a cached text counts as, besides its own.
 const TEXT: u64 = 96;
 
-/// Texts, by the offsets that they are of.
+/// Cached texts of a file, by offset.
 #[derive(Drop)]
 pub struct KnownTexts {
     texts: BTreeMap<u32, FrameText>,
-    /// How many bytes they take.
+    /// The size of all texts, in bytes.
     size: u64,
 }
 
 impl KnownTexts {
-    /// None yet.
+    /// No texts.
     pub fn new(alloc: Global) -> Self {
         KnownTexts {
             texts: BTreeMap::new(alloc),
@@ -24,7 +24,7 @@ impl KnownTexts {
         }
     }
 
-    /// How many bytes they take.
+    /// The size of all texts, in bytes.
     pub fn size(&self) -> u64 {
         self.size
     }
@@ -34,7 +34,7 @@ impl KnownTexts {
         self.texts.get(&offset)
     }
 
-    /// The texts at these offsets, if all of them are known.
+    /// The texts at these offsets, if all of them are cached.
     pub fn all(&self, alloc: Global, offsets: &[u32]) -> Result<Option<FrameTexts>, AllocError> {
         let mut texts = FrameTexts::new(alloc);
         for &offset in offsets {
@@ -46,7 +46,7 @@ impl KnownTexts {
         Ok(Some(texts))
     }
 
-    /// Keeps these texts too.
+    /// Adds texts to the cache.
     pub fn add(&mut self, added: Vec<NewText>) -> Result<(), AllocError> {
         for NewText { offset, text } in added {
             let size = TEXT.saturating_add(text.size() as u64);
@@ -57,7 +57,7 @@ impl KnownTexts {
     }
 }
 
-/// A text that wasn't known.
+/// A text that wasn't cached.
 #[derive(Drop)]
 pub struct NewText {
     pub offset: u32,

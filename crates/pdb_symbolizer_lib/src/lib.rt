@@ -1,9 +1,9 @@
-//! What `pdb_symbolizer` does: functions, files and lines of a Windows program's addresses, by its PDB file.
+//! The work of `pdb_symbolizer`: prints functions, files and lines at a Windows program's addresses, by its PDB file.
 //!
-//! [`run_words`] takes the words of a command line, reads the file that they name, and prints an answer for each
-//! address in the styles of `llvm-symbolizer`; or it writes the records of the file as a records file, or its functions
-//! as a Breakpad symbol file; or it answers requests of the symbolication API. The program hands in the words, and
-//! standard input and output by its runtime.
+//! [`run_words`] takes the words of a command line, opens the file that they name, and prints an answer for each
+//! address in the styles of `llvm-symbolizer`. With other options it writes the records as a records file, writes a
+//! Breakpad symbol file, or answers requests of the symbolication API. The program passes the words, and standard input
+//! and output through its runtime.
 #![tactic(auto)]
 
 mod arguments;

@@ -1,4 +1,4 @@
-//! Answers to lines of an input, over one file.
+//! Answers the lines of an input over one file.
 
 ghost use Rattle.std.specs.Prelude.{◌≡◌, ◌∷◌, [], true, string_bytes, IfErr};
 ghost use Rattle.pdb_symbolizer_lib.specs.AnsweredRequests.{AnswersText, AreFramesAt, AreFramesOver, flags_of};
@@ -18,7 +18,7 @@ use std::alloc::{AllocError, Global};
 use std::io::{Read, Seek};
 use std::rt::Files;
 
-/// Answers the lines of an input. What is known of the modules that ready lines ask for is read together.
+/// Answers the lines of an input. The modules that all ready lines need are read together.
 pub fn answer_input<
     R: Files + Eprint + AllocGlobal,
     W: Output,
@@ -48,7 +48,7 @@ pub fn answer_input<
     Err(RunError::CannotReadInput)
 }
 
-/// The addresses that ready lines ask for in the file, up to the first line that names another one.
+/// The addresses that the ready lines ask for, up to the first line that names another file.
 pub fn addresses_of_lines<T: Read + Drop>(
     alloc: Global,
     questions: &Questions<'_, '_>,
@@ -67,7 +67,7 @@ pub fn addresses_of_lines<T: Read + Drop>(
     Ok(addresses)
 }
 
-// Answers lines by one context, up to the first one whose module was not read.
+// Answers lines with one context, up to the first line that needs records that weren't read.
 fn answer_lines<R: Files + Eprint + AllocGlobal, W: Output, F: Read + Seek + Drop, T: Read + Drop>(
     rt: &R,
     out: &mut W,
@@ -88,7 +88,7 @@ fn answer_lines<R: Files + Eprint + AllocGlobal, W: Output, F: Read + Seek + Dro
     answer_read_lines(rt, out, questions, state, &mut context, queue)
 }
 
-// The same by a context that was made.
+// Answers lines with this context, up to the first line that needs records that weren't read.
 fn answer_read_lines<R: Files + Eprint + AllocGlobal, W: Output, T: Read + Drop>(
     rt: &R,
     out: &mut W,
@@ -115,7 +115,7 @@ fn answer_read_lines<R: Files + Eprint + AllocGlobal, W: Output, T: Read + Drop>
     Ok(())
 }
 
-/// Answers a line.
+/// Writes the answer to a line.
 pub fn answer_line<R: Files + Eprint + AllocGlobal, W: Output>(
     rt: &R,
     out: &mut W,

@@ -1,4 +1,4 @@
-//! Lines of standard input, as many at once as are ready, so that what they ask for can be read together.
+//! `LineQueue`: reads as many lines of standard input as are ready, so that what they need can be read together.
 
 ghost use Rattle.std.specs.Prelude.{◌≡◌, [], Some, drop, option_map, string_bytes, IfErr, IfNone, IfSome, IfOk, OnOk};
 ghost use Rattle.std.specs.Io.Buffered.{reader_remaining};
@@ -11,7 +11,7 @@ use std::io::{BufRead, BufReader, ErrorKind, Read};
 use std::marker::Model;
 use std::str;
 
-/// How many bytes of the input are taken at once.
+/// The size of the input's buffer, in bytes.
 const CAPACITY: usize = 1 << 16;
 
 /// The lines that were read and not yet answered.
@@ -34,8 +34,8 @@ impl<T: Read + Drop> Drop for LineQueue<T> {
     }
 }
 
-// Clauses see a queue as what its lines ask for, where the input is known. Where no line is ready though the input has
-// more, the input could not be read, and what is asked for counts as unknown.
+// Contracts see a queue as the requests in its remaining lines, if the input is known. The requests count as unknown if
+// no line is ready although the input has more: then the input could not be read.
 impl<T: Read> Model for LineQueue<T> {
     ghost use Rattle.std.specs.Prelude.{List, ℕ, drop, Option};
     ghost use Rattle.std.specs.Io.Buffered.{reader_remaining};
@@ -47,7 +47,7 @@ impl<T: Read> Model for LineQueue<T> {
 }
 
 impl<T: Read + Drop> LineQueue<T> {
-    /// A queue with the first lines of an input.
+    /// Starts a queue, and reads the first lines that are ready.
     pub fn new(alloc: Global, input: T) -> Result<Self, RunError>
         ensures answer { IfOk result (λ queue.
             IfSome (T.remaining input) (λ bytes. queue ≡ Some (asked_lines bytes))) }
@@ -66,7 +66,7 @@ impl<T: Read + Drop> LineQueue<T> {
         })
     }
 
-    /// The first line that was not answered, `None` at the end of the input.
+    /// The first unanswered line, trimmed; `None` at the end of the input.
     pub fn first(&self) -> Option<&str>
         ensures some { IfSome result (λ line. BeginWith self.now line.now) }
         ensures none { IfNone result (IfSome self.now (λ all. all ≡ [])) }
@@ -77,7 +77,7 @@ impl<T: Read + Drop> LineQueue<T> {
         }
     }
 
-    /// All lines that were read and not yet answered.
+    /// All lines that were read and aren't answered yet.
     pub fn ready(&self) -> &[String] {
         match self.lines.get(self.next..) {
             Some(lines) => lines,
@@ -85,7 +85,7 @@ impl<T: Read + Drop> LineQueue<T> {
         }
     }
 
-    /// Passes the first line, which was answered. Where it was the last that was ready, more are waited for.
+    /// Drops the first line after its answer. If it was the last ready line, this waits for more.
     pub fn pass(&mut self) -> Result<(), RunError>
         ensures state { OnOk result (IfSome self.old (λ all. self.new ≡ Some (drop 1 all))) }
         ensures early { IfErr result EndsInput }
@@ -99,7 +99,7 @@ impl<T: Read + Drop> LineQueue<T> {
     }
 }
 
-// Reads a line, if there is one, and those after it that are ready, in place of the lines that were there.
+// Replaces `lines` by the next line of the input, if there is one, and all complete lines in the buffer after it.
 fn fill<T: Read>(
     alloc: Global,
     reader: &mut BufReader<T, Global>,
@@ -122,7 +122,7 @@ fn fill<T: Read>(
     Ok(())
 }
 
-// Reads the next line, if there is one. What is no text is a line with a question mark.
+// Reads the next line, if there is one. A line that isn't UTF-8 becomes a question mark.
 fn read_line<B: BufRead>(alloc: Global, reader: &mut B) -> Result<Option<String>, RunError>
     ensures answer { IfOk result (λ line.
         GivesLine (B.remaining reader.old) (B.remaining reader.new) (option_map string_bytes line)) }

@@ -1,7 +1,7 @@
-//! Lines of standard input that each name a file and an address in it.
+//! Answers lines of standard input that each name a file and an address in it.
 //!
-//! Those that follow one another and name the same file are answered by one context. A PDB file stays open if lines of
-//! another file come between.
+//! Consecutive lines that name the same file are answered with one context. A PDB file stays open when lines of another
+//! file come between.
 
 use crate::frame_answers::print_lack;
 use crate::input_files::find_file_of_line;
@@ -23,14 +23,14 @@ use pdb_session::SessionContext;
 use std::io::{self, Read, Seek};
 use std::rt::Files;
 
-// What is kept from one line to the next.
+// Programs and files that are cached from one line to the next.
 #[derive(Drop)]
 struct Kept<F: Read + Seek + Drop> {
     programs: KnownPrograms,
     files: KeptFiles<F>,
 }
 
-/// Answers the lines of standard input, of which each names its file.
+/// Answers the lines of standard input. Each line names its file.
 pub fn answer_named_files<R: Files + Input + Print + Eprint + AllocGlobal>(
     rt: &R,
     status_line: &StatusLine,
@@ -63,7 +63,7 @@ pub fn answer_named_files<R: Files + Input + Print + Eprint + AllocGlobal>(
     Ok(())
 }
 
-// Answers the first line, and those after it that name the same file.
+// Answers the first line, and the lines after it that name the same file.
 fn answer_next_lines<R: Files + Print + Eprint + AllocGlobal, W: Output, T: Read + Drop>(
     rt: &R,
     out: &mut W,
@@ -95,7 +95,7 @@ fn answer_next_lines<R: Files + Print + Eprint + AllocGlobal, W: Output, T: Read
     }
 }
 
-// Opens the file that a line names, or takes it where it is open still.
+// Opens the file that a line names, or takes it from the open files.
 fn open_named<R: Files + Eprint + AllocGlobal>(
     rt: &R,
     status_line: &StatusLine,
@@ -107,7 +107,7 @@ fn open_named<R: Files + Eprint + AllocGlobal>(
     open_used(rt, options, &mut kept.files, source)
 }
 
-// Answers a line that asks for nothing.
+// Answers a line that isn't a request.
 fn answer_none<R: AllocGlobal, W: Output>(
     rt: &R,
     out: &mut W,
@@ -119,7 +119,7 @@ fn answer_none<R: AllocGlobal, W: Output>(
     write_line_answer(out, options.printer.style, text)
 }
 
-// Answers lines that name this file. What is known of the modules that ready lines ask for is read together.
+// Answers lines that name this file. The modules that all ready lines need are read together.
 fn answer_lines_of<
     R: Files + Eprint + AllocGlobal,
     W: Output,
@@ -148,16 +148,16 @@ fn answer_lines_of<
     Ok(())
 }
 
-// What is left of the lines that name a file.
+// Why answering the lines of one file stopped.
 #[derive(Clone, Copy, PartialEq, Eq)]
 enum Left {
     /// The next line names another file, or there is none.
     Nothing,
-    /// The next line asks for a module that was not read.
+    /// The next line names the same file, and needs records that weren't read.
     Lines,
 }
 
-// Answers lines by one context, up to the first one that names another file, or whose module was not read.
+// Answers lines with one context, up to the first line that names another file or needs records that weren't read.
 fn answer_same_file<
     R: Files + Eprint + AllocGlobal,
     W: Output,

@@ -1,4 +1,4 @@
-//! Files that are opened for answers. What is broken in their records is taken out, and printed on standard error.
+//! Opens files for answers. Broken parts of their records are removed, and printed on standard error.
 
 ghost use Rattle.std.specs.Prelude.{◌≡◌, true, string_bytes, IfErr, IsOk, OnOk};
 ghost use Rattle.pdb_session.specs.Session.{SameFile, needs_none};
@@ -27,13 +27,12 @@ use std::rt::Files;
 /// A file that was opened for answers.
 #[derive(Drop)]
 pub struct OpenedFile<F: Read + Seek + Drop> {
-    /// The path of the file that the records are of: a PDB file that was found for a program, or the one that was
-    /// named.
+    /// The path of the file with the records: a PDB file that was found for a program, or the file that was named.
     pub path: String,
     pub session: PdbSession<FileBytes<F>>,
     /// Where the source files can be fetched. It says nothing unless the options ask for URLs.
     pub source_urls: SourceUrls,
-    /// Where the program wants to be loaded, if one was named, and which build it is of.
+    /// The image base of the program, if the user named a program.
     pub image_base: Option<u64>,
     pub code_id: Option<CodeId>,
 }
@@ -77,7 +76,7 @@ impl<F: Read + Seek + Drop> OpenedFile<F> {
         self.print_read(rt, read)
     }
 
-    // Prints what was broken in what was read.
+    // Prints the broken parts of the records that were just read.
     fn print_read<R: Eprint + AllocGlobal>(
         &self,
         rt: &R,
@@ -94,8 +93,8 @@ impl<F: Read + Seek + Drop> OpenedFile<F> {
     }
 }
 
-/// Opens a file that the words name: a PDB file, a records file, or the PDB file of a program, which is looked for. An
-/// error where nothing can be answered over it.
+/// Opens a file that the user names: a PDB file, a records file, or the PDB file that is found for a program. An error
+/// is returned if nothing can be answered over it.
 pub fn open_file<R: Files + Eprint + AllocGlobal>(
     rt: &R,
     status_line: &StatusLine,
@@ -176,7 +175,7 @@ fn opened_file<R: Eprint + AllocGlobal, F: Read + Seek + Drop>(
     })
 }
 
-// Why a run ends over a file over which no session can be opened.
+// The error of a run whose file can't be opened as a session.
 fn session_error(alloc: Global, path: &str, fault: SessionError) -> RunError {
     match fault {
         SessionError::File(fault) => open_error(alloc, path, fault),

@@ -1,4 +1,4 @@
-//! What a command line asks for: styles, names, bases of addresses, files to write.
+//! `Options`: the parsed command line, with styles, names, bases of addresses and files to write.
 
 ghost use Rattle.std.specs.Prelude.{◌≡◌};
 ghost use Rattle.pdb_symbolizer_lib.specs.AnsweredRequests.{flags_of};
@@ -14,7 +14,7 @@ use pdb_answer_printer::{Detail, Digits, NameStyle, PrinterOptions, Style};
 pub struct Export<'w> {
     /// The records file.
     pub records: &'w str,
-    /// The folder of a file for each module, where they are to have one.
+    /// The folder for a file of each module, if these are asked for.
     pub modules: Option<&'w str>,
 }
 
@@ -23,38 +23,38 @@ pub struct Export<'w> {
 pub enum SymbolFilePlace<'w> {
     /// On standard output.
     StandardOutput,
-    /// Into the folder of a symbol store, under the name of its PDB file and its debug id.
+    /// In a symbol store with this folder, under the name of its PDB file and its debug id.
     Store(&'w str),
 }
 
-/// What is done with the file.
+/// What the run does with the file.
 #[derive(Clone, Copy)]
 pub enum Purpose<'w> {
-    /// Addresses are answered.
+    /// Answer addresses.
     Answers,
-    /// Its records are written.
+    /// Write its records.
     Export(Export<'w>),
-    /// Its functions are written as a Breakpad symbol file.
+    /// Write its functions as a Breakpad symbol file.
     SymbolFile(SymbolFilePlace<'w>),
-    /// Requests of the symbolication API are answered, over PDB files in folders.
+    /// Answer requests of the symbolication API, over PDB files in folders.
     Symbolication(RequestForm),
-    /// It is shown which build it is of, and the files that the other words name.
+    /// Print the identity of this file, and of the files that the other words name.
     Identities,
 }
 
-/// How requests stand on standard input.
+/// How standard input is split into requests.
 #[derive(Clone, Copy, PartialEq, Eq)]
 pub enum RequestForm {
-    /// All of it is one.
+    /// The whole input is one request.
     Whole,
-    /// Each line is one.
+    /// Each line is a request.
     Lines,
 }
 
-/// Where the program is loaded that addresses are of.
+/// Where the program is loaded, to which the addresses belong.
 #[derive(Clone, Copy, PartialEq, Eq)]
 pub enum Base {
-    /// Where a program wants to be loaded; at 0 where a PDB file or a records file is given.
+    /// At the image base of a program; at 0 for a PDB file or a records file.
     Preferred,
     /// At 0.
     Relative,
@@ -62,56 +62,57 @@ pub enum Base {
     At(u64),
 }
 
-/// What names the file that addresses are of.
+/// What names the file to which the addresses belong.
 #[derive(Clone, Copy, PartialEq, Eq)]
 pub enum FileNaming {
-    /// The first word. The run ends with why it can't be opened.
+    /// The first word. If the file can't be opened, the run ends with an error.
     ByWord,
-    /// An option. The same, but in JSON with an object that says why.
+    /// An option. If the file can't be opened, the run ends with an error, which JSON output shows as an object.
     ByOption,
-    /// Each line of standard input. Its address is answered as unknown where it can't be opened.
+    /// Each line of standard input. If its file can't be opened, the answer to the line says that nothing is known.
     ByEachLine,
 }
 
-/// What the words of a command line ask for.
+/// The parsed command line.
 #[derive(Drop)]
 pub struct Options<'w> {
-    /// The file with the records, or the program that it is of. Without one each line of standard input names its own.
+    /// The file with the records, or the program that they describe. If it is `None`, each line of standard input names
+    /// its own file.
     pub file: Option<&'w str>,
-    /// The folders in which the PDB file of a program is looked for.
+    /// The folders in which PDB files of programs are looked for.
     pub pdb_dirs: Vec<&'w str>,
-    /// The addresses, as they were given. Where there are none they come from standard input.
+    /// The addresses as they were given. If the list is empty, they come from standard input.
     pub addresses: Vec<&'w str>,
     /// How answers are printed.
     pub printer: PrinterOptions,
-    /// Whether a function goes by its public symbol's name, as the records have it.
+    /// Whether a function is named by its public symbol, as the records have that name.
     pub decorated: bool,
-    /// How many lines of the source file are shown around the place of each frame.
+    /// How many lines of the source file are printed around each frame's line.
     pub source_lines: u32,
     /// Whether the URL of its source file follows the place of each frame.
     pub source_urls: bool,
     pub digits: Digits,
     pub naming: FileNaming,
     pub base: Base,
-    /// What else is taken from the addresses.
+    /// The offset that is subtracted from each address, besides the base.
     pub adjust: u64,
     pub purpose: Purpose<'w>,
-    /// How many bytes of what was read of files are kept from one request to the next, at most.
+    /// How many bytes of memory open files may take between requests.
     pub cache_size: u64,
-    /// The build that the file has to be of, if one is named.
+    /// The build to which the file must belong, if the options say one.
     pub expected: Option<ExpectedBuild>,
 }
 
 impl Options<'_> {
-    /// Whether functions go by the names of their public symbols: not where a name is to be short, or none.
+    /// Whether functions are named by their public symbols. They aren't if names are to be short or omitted.
     pub fn shows_decorated_names(&self) -> bool
         ensures { result ≡ shows_decorated_names self.now }
     {
         self.decorated && matches!(self.printer.names, NameStyle::Signature)
     }
 
-    /// How many lines of the source file are shown around each place. None are shown where file, line and column have
-    /// lines of their own.
+    /// How many lines of the source file are printed around each frame's line. None are printed in verbose LLVM or GNU
+    /// style, which has file, line and column on lines of their own.
     pub fn shown_source_lines(&self) -> u32 {
         match (self.printer.style, self.printer.detail) {
             (Style::Llvm | Style::Gnu, Detail::Verbose) => 0,
@@ -119,7 +120,7 @@ impl Options<'_> {
         }
     }
 
-    /// How names are printed.
+    /// The flags for printing names.
     pub fn flags(&self) -> TypeFormatterFlags
         ensures { result ≡ flags_of self.now.printer.names }
     {

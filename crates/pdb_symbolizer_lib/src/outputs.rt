@@ -1,4 +1,4 @@
-//! Where answers are written: an output takes a text whole, or refuses it.
+//! `Output`: where answers are written. An output accepts a whole text or refuses it.
 
 ghost use Rattle.std.specs.Prelude.{◌≡◌, ℕ, Bool, false, List, Option, IfErr, string_bytes};
 ghost use Rattle.pdb_symbolication.specs.Writes.{Writes};
@@ -10,19 +10,19 @@ use pdb_answer_printer::Style;
 use pdb_symbolication::write_whole;
 use std::io;
 
-/// Takes the texts of answers.
+/// Accepts the texts of answers.
 pub trait Output {
-    /// The bytes that it holds, where it says them.
+    /// The bytes that were written to it, if it says them.
     ghost contents: { Self → Option (List ℕ) };
 
-    /// Whether it takes every text as long as there is memory. An output of the system may refuse any text.
+    /// Whether it accepts every text unless memory runs out. An output of the operating system may refuse any text.
     ghost takes_all: { Self → Bool };
 
-    /// Writes a text whole, and passes on what the output holds back.
+    /// Writes a whole text, and flushes the output.
     ///
     /// # Errors
     ///
-    /// Memory ran out, or the output refuses the text. Then a beginning of the text is written.
+    /// Memory ran out, or the output refused the text. Then a beginning of the text may have been written.
     fn write_text(&mut self, text: &str) -> Result<(), RunError>
         ensures text { Writes (contents self.old) (contents self.new) result text.now }
         ensures early { IfErr result (EndsWrite (takes_all self.old)) }
@@ -45,7 +45,7 @@ impl<W: io::Write> Output for ByteStream<W> {
     }
 }
 
-// Writes a text whole to a writer, and flushes the writer.
+// Writes a whole text to a writer, and flushes the writer.
 fn write_through<W: io::Write>(out: &mut W, text: &str) -> Result<(), RunError>
     ensures text { Writes (W.contents out.old) (W.contents out.new) result text.now }
     ensures early { IfErr result (EndsWrite false) }
@@ -54,7 +54,7 @@ fn write_through<W: io::Write>(out: &mut W, text: &str) -> Result<(), RunError>
     Ok(out.flush()?)
 }
 
-/// Bytes in memory take every text as long as there is memory.
+/// A buffer in memory accepts every text unless memory runs out.
 impl Output for Vec<u8> {
     ghost use Rattle.std.specs.Prelude.{Some, true};
 
@@ -68,7 +68,7 @@ impl Output for Vec<u8> {
     }
 }
 
-/// Writes an answer to a line, which in JSON has a line of its own.
+/// Writes the answer to a line. In JSON it ends with a newline.
 pub fn write_line_answer<W: Output>(
     out: &mut W,
     style: Style,

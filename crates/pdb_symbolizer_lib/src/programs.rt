@@ -1,4 +1,4 @@
-//! The PDB file of a program, looked for where that names it, beside it and in folders; and of a module, in folders.
+//! Finds the PDB file of a program or of a module: at the path that the program names, beside it and in folders.
 
 use crate::file_bytes::{FileBytes, open_regular_bytes};
 use crate::folder_listings::FolderListings;
@@ -18,11 +18,11 @@ use std::io::{Read, Seek};
 use std::rt::Files;
 use std::str;
 
-/// How many bytes the debug id of a file counts for, with its path.
+/// How many bytes a kept debug id and its path count as in the cache.
 const ID_SIZE: u64 = 512;
 
-/// The PDB file of a program: the first of these places with one of its GUID and age. One of another build is rejected.
-/// If all are rejected, the error names each place, and why it was rejected.
+/// Finds the PDB file of a program: the first candidate file with the program's GUID and age. A file of another build
+/// is rejected. If all are rejected, the error names each path and why it was rejected.
 pub fn find_pdb<R: Files + AllocGlobal>(
     rt: &R,
     program: &str,
@@ -53,11 +53,11 @@ pub fn find_pdb<R: Files + AllocGlobal>(
     Err(RunError::NoPdbFile(format!(in rt.alloc(); "{program}: no PDB file of {id}{looked}")?))
 }
 
-/// The PDB file of a module that a request asks for: the first of its name and its debug id in the folders.
+/// Finds the PDB file of a module that a request asks for: the first file in the folders with its name and debug id.
 ///
 /// # Errors
 ///
-/// Memory ran out, or all that there is of the file is compressed.
+/// Memory ran out, or the only file found is compressed.
 pub fn find_in_folders<R: Files + AllocGlobal>(
     rt: &R,
     ids: &mut KnownIds,
@@ -82,16 +82,16 @@ pub fn find_in_folders<R: Files + AllocGlobal>(
     }
 }
 
-/// What a search in folders came to.
+/// The result of a search in folders.
 #[derive(Drop)]
 enum Search<F> {
     Found(SourceFile<F>),
-    /// Only a compressed file is there, at this path.
+    /// Only a compressed file was found, at this path.
     Compressed(String),
     Nothing,
 }
 
-// Looks for a file in folders under names in other case, and then for the file as a symbol server compresses it.
+// Looks in folders for a file whose name differs in case, and then for the compressed file of a symbol server.
 fn look_further<R: Files + AllocGlobal>(
     rt: &R,
     ids: &mut KnownIds,
@@ -110,8 +110,8 @@ fn look_further<R: Files + AllocGlobal>(
     }
 }
 
-// The first of these places that has a file of this debug id. To the text are added the places before it, each with why
-// it was rejected.
+// Opens the first of these paths that has a file with the wanted debug id. Appends each path before it to `looked`,
+// with the reason why its file was rejected.
 fn look_at_each<R: Files + AllocGlobal>(
     rt: &R,
     ids: &mut KnownIds,
@@ -128,15 +128,15 @@ fn look_at_each<R: Files + AllocGlobal>(
     Ok(None)
 }
 
-/// What a look at a place came to.
+/// The result of checking one path.
 #[derive(Drop)]
 enum Look<F> {
     Found(FileBytes<F>),
-    /// Why it is none that is looked for.
+    /// Why the file isn't the wanted one.
     Rejected(String),
 }
 
-// Looks at the file at a path. Its id is read only if it isn't known of this very file.
+// Checks the debug id of the file at a path. The id is read only if it isn't cached for this path and stamp.
 fn look_at<R: Files + AllocGlobal>(
     rt: &R,
     ids: &mut KnownIds,
@@ -153,7 +153,7 @@ fn look_at<R: Files + AllocGlobal>(
     }
 }
 
-// The debug id of a file that was looked at before.
+// The cached debug id of a file, if the file didn't change since it was read.
 fn known_id<F: Read + Seek + Drop>(
     ids: &KnownIds,
     path: &str,
@@ -203,13 +203,13 @@ fn rejected<F: Drop>(alloc: Global, why: &str) -> Result<Look<F>, RunError> {
     Ok(Look::Rejected(String::from_str(alloc, why)?))
 }
 
-// The name of the PDB file in the path that a program names.
+// The file name in the PDB path that a program names.
 fn name_in<'p>(code_view: &CodeView<'p>) -> Option<&'p str> {
     file_name(str::from_utf8(code_view.path).ok()?)
 }
 
-// Where the PDB file is looked for: at the path that the program names; under that path's last part beside the program;
-// and under it in each folder, and in the folders that a symbol store has for it there.
+// The candidate paths: the path that the program names; its file name beside the program; its file name in each folder,
+// and in the subfolders that a symbol store has for it.
 fn places<R: Files + AllocGlobal>(
     rt: &R,
     program: &str,

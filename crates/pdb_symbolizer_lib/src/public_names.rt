@@ -1,4 +1,4 @@
-//! Public symbols of a program as the records have them: their names, for `--no-demangle`, and the sections they lie in.
+//! `PublicNames`: the undemangled names of public symbols, for `--no-demangle`, and the sections of a program.
 
 ghost use Rattle.std.specs.Prelude.{◌≡◌, ℕ, Some, None, option_map, string_bytes, IfOk, OnOk, if◌then◌else◌};
 ghost use Rattle.std.specs.Option.{option_or};
@@ -16,17 +16,17 @@ use pdb_tables::insert_first;
 use std::alloc::{AllocError, Global};
 use std::collections::BTreeMap;
 
-/// The names of what starts at section offsets, as the records have them.
+/// The name of the public symbol at each section offset, as the records have it.
 type NamesOfStarts = BTreeMap<PdbInternalSectionOffset, RawString>;
 
-/// The sections of a program, and the names of its public symbols, by where these stand.
+/// The sections of a program, and the names of its public symbols by section offset.
 #[derive(Drop)]
 pub struct PublicNames {
     address_map: AddressMap,
     names: NamesOfStarts,
 }
 
-// The sections of these records. Records that don't say where code lies have none.
+// The sections of these records; empty if they have no address map.
 fn address_map_of(alloc: Global, records: &PDB) -> Result<AddressMap, AllocError>
     ensures { IfOk result (λ map. map ≡ sections_of records.now.address_map) }
 {
@@ -37,7 +37,7 @@ fn address_map_of(alloc: Global, records: &PDB) -> Result<AddressMap, AllocError
     Ok(AddressMap { sections })
 }
 
-// Adds the names of public symbols, of each section offset the first.
+// Adds the names of public symbols. At each section offset the first one is kept.
 fn add_names(alloc: Global, names: &mut NamesOfStarts, symbols: &[Symbol]) -> Result<(), AllocError>
     ensures { OnOk result ((start : PdbInternalSectionOffset) → name_in names.new start
         ≡ option_or (name_in names.old start) (public_name symbols.now start)) }
@@ -50,7 +50,7 @@ fn add_names(alloc: Global, names: &mut NamesOfStarts, symbols: &[Symbol]) -> Re
     Ok(())
 }
 
-// Adds a name, unless one is known of what starts there.
+// Adds a name, unless this section offset already has one.
 fn add_name(
     alloc: Global,
     names: &mut NamesOfStarts,
@@ -68,7 +68,7 @@ fn add_name(
     insert_first(names, start, copy)
 }
 
-// The names of the public symbols of these records. Records without public symbols have none.
+// The names of the public symbols; empty if the records have none.
 fn names_of(alloc: Global, records: &PDB) -> Result<NamesOfStarts, AllocError>
     ensures { IfOk result (λ names. (start : PdbInternalSectionOffset)
         → name_in names start ≡ public_name_in records.now start) }
@@ -81,8 +81,7 @@ fn names_of(alloc: Global, records: &PDB) -> Result<NamesOfStarts, AllocError>
 }
 
 impl PublicNames {
-    /// The sections of these records, and the names where the options want functions to go by them. Records that don't
-    /// say where code lies have no sections.
+    /// The sections of these records, and their public names if the options want these.
     pub fn for_answers(
         alloc: Global,
         options: &Options<'_>,
@@ -110,7 +109,7 @@ impl PublicNames {
         Rva(address).to_internal_offset(&self.address_map)
     }
 
-    /// Whether an address that is relative to where the program is loaded lies in a section.
+    /// Whether an address, relative to where the program is loaded, is in a section.
     pub fn lies_in_section(&self, address: u64) -> bool {
         match u32::try_from(address) {
             Ok(address) => self.section_offset(address).is_some(),
@@ -118,7 +117,7 @@ impl PublicNames {
         }
     }
 
-    /// These frames, whose function goes by the public symbol at its start, if there is one whose name is known here.
+    /// Renames the containing function, the last frame, by the public symbol at its start, if there is one.
     pub fn decorate<'a>(
         &self,
         alloc: Global,
@@ -141,7 +140,7 @@ impl PublicNames {
         })
     }
 
-    // A frame, which goes by the name that is known of the function that starts at an address.
+    // Renames a frame by the public symbol at the address `start`, if there is one.
     fn decorated_frame<'a>(
         &self,
         alloc: Global,
@@ -166,7 +165,7 @@ impl PublicNames {
         })
     }
 
-    // The name that is known of the function that starts at an address.
+    // The name of the public symbol at an address.
     fn name_of(&self, alloc: Global, start: u32) -> Result<Option<String>, AllocError>
         ensures { IfOk result (λ name. option_map string_bytes name ≡ known_name self.now start) }
     {

@@ -1,4 +1,4 @@
-//! The questions that a run asks of one file: the options, the file's name, its image base, and its public symbols.
+//! `Questions`: what the requests over one file have in common, such as options, image base and public names.
 
 ghost use Rattle.std.specs.Prelude.{◌≡◌};
 ghost use Rattle.pdb_answer_printer.specs.InputLine.{question_of};
@@ -14,7 +14,7 @@ use pdb_session::SessionContext;
 use pdb_source_urls::SourceUrls;
 use std::io::{Read, Seek};
 
-/// What all questions of one file have in common.
+/// What all requests over one file have in common.
 #[derive(Clone, Copy)]
 pub struct Questions<'q, 'w> {
     pub options: &'q Options<'w>,
@@ -27,7 +27,7 @@ pub struct Questions<'q, 'w> {
 }
 
 impl<'q, 'w> Questions<'q, 'w> {
-    /// The questions of a file that was opened.
+    /// The data for requests over an open file.
     pub fn new<F: Read + Seek + Drop>(
         options: &'q Options<'w>,
         file: &'q str,
@@ -52,7 +52,7 @@ impl<'q, 'w> Questions<'q, 'w> {
 }
 
 impl Questions<'_, '_> {
-    /// The request of a text, which names its file where the command line names none.
+    /// Parses a request. Its text names the file if the command line doesn't.
     pub fn request<'t>(&'t self, text: &'t str) -> InputLine<'t>
         ensures { question_of result ≡ question_by self.now text.now }
     {
@@ -63,7 +63,8 @@ impl Questions<'_, '_> {
         parse_input_line(text, file, self.options.digits)
     }
 
-    /// The address of code that a text asks for, relative to where the program is loaded, where it can lie there.
+    /// The code address that a request asks for, relative to where the program is loaded. `None` for other requests, or
+    /// if the address doesn't fit 32 bits.
     pub fn address_in(&self, text: &str) -> Option<u32>
         ensures { result ≡ asked_address self.now text.now }
     {
@@ -74,13 +75,13 @@ impl Questions<'_, '_> {
         }
     }
 
-    /// Whether a text asks for something in another file.
+    /// Whether a request names another file.
     pub fn names_other_file(&self, text: &str) -> bool {
         let request = self.request(text);
         request.file != self.file && !request.is_nowhere()
     }
 
-    /// Whether something is still to be read for the answer of a text.
+    /// Whether the answer to a request needs records that weren't read.
     pub fn needs_more(&self, context: &SessionContext<'_, '_>, text: &str) -> bool
         ensures { result ≡ asks_more context.now.known self.now text.now }
     {

@@ -1,20 +1,20 @@
-//! How many bytes the records of a file take in memory, estimated from the lengths of their lists.
+//! Estimates how many bytes the records of a file take in memory, from the lengths of their lists.
 
 use pdb_addr2line::pdb::{LineProgram, ModuleInfo, PDB};
 
-/// What an open file takes without its records.
+/// The size of an open file without its records, in bytes.
 const FILE: u64 = 1 << 14;
 
-/// What a type, an id, a symbol, a text or a source file takes, with its names.
+/// The size of a type, id, symbol, string or source file, with its names.
 const RECORD: u64 = 128;
 
-/// What the list of a function's line rows takes, or a module in which no code was read.
+/// The size of the list of a function's line rows, or of an unread module.
 const LIST: u64 = 64;
 
-/// What a line row, a contribution or an inlined function takes.
+/// The size of a line row, a contribution or an inlinee.
 const ROW: u64 = 16;
 
-/// How many bytes a file takes of which these records were read.
+/// The estimated size of an open file with these records, in bytes.
 pub fn estimated_size(records: &PDB) -> u64 {
     let mut size = FILE.saturating_add(front_size(records));
     for module in &records.module_infos {
@@ -26,7 +26,7 @@ pub fn estimated_size(records: &PDB) -> u64 {
     size
 }
 
-// What everything but modules takes.
+// The size of everything except modules.
 fn front_size(records: &PDB) -> u64 {
     let types = match &records.type_information {
         Ok(types) => types.items.items.len(),
@@ -75,7 +75,7 @@ fn lines_size(program: &LineProgram) -> u64 {
     size
 }
 
-// What so many entries take.
+// The size of `count` entries.
 fn list_size(count: usize, each: u64) -> u64 {
     (count as u64).saturating_mul(each)
 }

@@ -1,4 +1,4 @@
-//! The lines on standard error that say what of a PDB file is broken and was left out.
+//! Prints lines on standard error for the broken parts of a PDB file that were removed.
 
 ghost use Rattle.std.specs.Prelude.{◌≡◌, string_bytes, IfErr, IfOk};
 ghost use Rattle.pdb_records.specs.Names.{lossy};
@@ -10,7 +10,7 @@ use pdb_container::faults::{UNKNOWN_VERSION, fault_text};
 use pdb_repairs::Repair;
 use std::alloc::{AllocError, Global};
 
-/// Prints a line for each part of a file's records that was broken and was taken out.
+/// Prints a line for each broken part that was removed from a file's records.
 pub fn print_repairs<R: Eprint + AllocGlobal>(
     rt: &R,
     file: &str,
@@ -72,7 +72,7 @@ fn repair_text(alloc: Global, records: &PDB, repair: Repair) -> Result<String, A
     }
 }
 
-// Types of a version that isn't read are those of an old compiler.
+// Types in an unknown version of the format come from old compilers.
 fn types_text(alloc: Global, fault: StreamError) -> Result<String, AllocError> {
     match fault {
         UNKNOWN_VERSION => {
@@ -86,7 +86,7 @@ fn list_text(alloc: Global, what: &str, fault: StreamError) -> Result<String, Al
     format!(in alloc; "{what}: {}", fault_text(fault))
 }
 
-// How many inline sites of a module have rows that end early, and why those of the first do.
+// Says how many inline sites of a module have rows that end early, and why the first of these do.
 fn inline_rows_text(
     alloc: Global,
     records: &PDB,
@@ -110,7 +110,7 @@ fn module_text(
     format!(in alloc; "module {name}: {what}: {}", fault_text(fault))
 }
 
-// The name of a module, or its position in the list where that is too short.
+// The name of a module, or its module index if the list of modules doesn't have it.
 fn module_name(alloc: Global, records: &PDB, module_index: usize) -> Result<String, AllocError> {
     match module_at(records, module_index) {
         Some(module) => text_of(alloc, &module.name),

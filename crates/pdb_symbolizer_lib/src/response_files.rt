@@ -1,14 +1,14 @@
-//! Response files: the words of a file, which a word names after an `@`, stand in that word's place.
+//! Response files: a word `@FILE` is replaced by the words in that file.
 
 use crate::input_files::read_file;
 use crate::run_errors::RunError;
 use std::alloc::{AllocError, Global};
 use std::rt::Files;
 
-/// What stands before the name of a response file.
+/// The character before the name of a response file.
 const RESPONSE_FILE: char = '@';
 
-/// Appends words, with those of a file in the place of each word that names one.
+/// Appends words. Each word that names a response file is replaced by the words in it.
 pub fn expand_words<R: Files + AllocGlobal>(
     rt: &R,
     words: &[String],
@@ -30,16 +30,16 @@ fn push_words_of(alloc: Global, bytes: &[u8], words: &mut Vec<String>) -> Result
     push_words(alloc, text.as_str(), words)
 }
 
-/// Where the splitting of a text stands.
+/// The state of splitting a text into words.
 #[derive(Clone, Copy, PartialEq, Eq)]
 enum WordState {
     BetweenWords,
     InWord,
-    /// In quotation marks of this kind, where space is a part of the word.
+    /// In quotation marks of this kind, where white space belongs to the word.
     Quoted(char),
 }
 
-/// Appends the words of a text, between which white space stands. Quotation marks hold a word together.
+/// Splits a text at white space, and appends its words. Quotation marks hold a word together.
 pub fn push_words(alloc: Global, text: &str, words: &mut Vec<String>) -> Result<(), AllocError> {
     let mut word = String::new(alloc);
     let mut place = WordState::BetweenWords;

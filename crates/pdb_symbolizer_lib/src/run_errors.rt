@@ -1,4 +1,4 @@
-//! Why a run ended early, in words, and the exit status that goes with it.
+//! `RunError`: why a run ended early, its message, and its exit status.
 
 ghost use Rattle.std.specs.Prelude.{◌≡◌, if◌then◌else◌};
 ghost use Rattle.pdb_symbolizer_lib.specs.EarlyEnds.{out_of_memory};
@@ -18,16 +18,16 @@ use pdb_session::QuestionError;
 use std::alloc::{AllocError, AllocFailed};
 use std::io;
 
-/// Why a run of the program ended early. Its text is the line that the program prints after its name.
+/// Why a run of the program ended early. The error's text is the line that the program prints after its name.
 #[derive(Debug, Drop, thiserror::Error)]
 pub enum RunError {
-    /// The words ask for help or for the version, or for nothing that is known.
+    /// The command line asks for help or for the version, or can't be parsed.
     #[error("{0}")]
     Words(clap::Error),
-    /// The words of the command line are no text.
+    /// The command line isn't valid text.
     #[error("the command line is no text")]
     NoText,
-    /// The value of an option is none that it takes.
+    /// The option doesn't accept this value.
     #[error("--{0} can't be {1}")]
     NoSuchValue(&'static str, String),
     /// The file could not be read, and why.
@@ -36,28 +36,28 @@ pub enum RunError {
     /// A range of the file, or another file that it names, could not be read.
     #[error("cannot read {0}")]
     Unreadable(String),
-    /// The file is none of those that are read.
+    /// The file is of a kind that can't be read.
     #[error("{0}: {1}")]
     Foreign(String, ForeignFile),
-    /// Files could not be opened, of which was said why.
+    /// Some files could not be opened. The errors were already printed.
     #[error("a file can't be opened")]
     Unopened,
     /// No file is named.
     #[error("no FILE")]
     NoFile,
-    /// Something is written by this option, and addresses asked for at once.
+    /// This option writes a file, and the command line also has addresses.
     #[error("--{0} answers no address")]
     AnswersNone(&'static str),
-    /// Requests are read by this option, and something else is named.
+    /// This option reads requests, and the command line also has other words.
     #[error("--{0} takes no FILE and no address")]
     TakesNone(&'static str),
-    /// Standard input is no request.
+    /// Standard input isn't a valid request.
     #[error("no request: {0}")]
     NoRequest(String),
-    /// So many lines of standard input were no requests.
+    /// The number of lines of standard input that weren't valid requests.
     #[error("lines that are no requests: {0}")]
     NoRequests(u64),
-    /// The PDB file of a program was not found: where it was looked for.
+    /// The PDB file of a program was not found. The text lists where it was looked for.
     #[error("{0}")]
     NoPdbFile(String),
     /// The file is a PDB file that can't be read.
@@ -66,13 +66,13 @@ pub enum RunError {
     /// The file is a PDB file over which nothing can be answered.
     #[error("{0}: {1}")]
     PdbFile(String, PdbFileError),
-    /// The file is of another build than is expected: first the file's, then the expected one.
+    /// The file belongs to another build: its own id comes first, then the expected one.
     #[error("{0}: its id is {1}, not {2}")]
     OtherBuild(String, DebugId, ExpectedBuild),
-    /// The file doesn't say which build it is of.
+    /// The file doesn't say to which build it belongs.
     #[error("{0}: no id")]
     NoIdentity(String),
-    /// The file is a records file that holds no records.
+    /// The file can't be read as a records file.
     #[error("{0}: {1}")]
     Records(String, RecordFault),
     /// The file at this path could not be written.
@@ -81,10 +81,10 @@ pub enum RunError {
     /// The symbol file at this path could not be written.
     #[error("{0}: {1}")]
     SymbolFile(String, SymbolFileError),
-    /// The records were refused, or there was no memory.
+    /// The records were refused, or memory ran out.
     #[error("{0}")]
     Refused(Error),
-    /// Something that an answer depends on was not read of the file.
+    /// An answer depends on records that weren't read.
     #[error("not all of the file was read")]
     NotRead,
     /// Standard input could not be read.
@@ -93,20 +93,20 @@ pub enum RunError {
     /// An answer could not be written.
     #[error("cannot write")]
     CannotWrite,
-    /// Nobody reads the answers any more.
+    /// The reader of the output is gone.
     #[error("nobody reads")]
     ClosedPipe,
 }
 
 impl RunError {
-    /// There was no memory.
+    /// The error that memory ran out.
     pub fn want_of_memory() -> RunError
         ensures { result ≡ out_of_memory }
     {
         RunError::Refused(Error::OutOfMemory)
     }
 
-    /// Why a run ends whose words can't be had.
+    /// The error of a run that can't read its command line.
     pub fn without_words(error: &io::Error) -> RunError {
         if ran_out_of_memory(error) {
             RunError::Refused(Error::OutOfMemory)
@@ -115,7 +115,8 @@ impl RunError {
         }
     }
 
-    /// Prints why the run ended, which is on standard error but for the help and the version, and answers its status.
+    /// Prints why the run ended, and returns its exit status. Help and version go to standard output, everything else
+    /// to standard error.
     pub fn print<R: Print + Eprint + AllocGlobal>(&self, rt: &R) -> u8
         ensures { result ≡ status_of self.now }
     {
@@ -140,7 +141,7 @@ impl RunError {
         matches!(self, RunError::Refused(Error::OutOfMemory))
     }
 
-    /// The exit status that goes with it.
+    /// The exit status for this error.
     fn status(&self) -> u8
         ensures { result ≡ status_of self.now }
     {
@@ -158,7 +159,7 @@ impl RunError {
     }
 }
 
-// The status of words that were not taken as they stand: 0 where they ask for the help or the version.
+// The exit status for a parser's error: 0 if it asks for the help or the version.
 fn status_of_words(kind: ErrorKind) -> u8
     ensures { result ≡ if asks_for_help kind then 0 else 2 }
 {
@@ -168,10 +169,10 @@ fn status_of_words(kind: ErrorKind) -> u8
     }
 }
 
-/// What the advice begins with to write an option that isn't known after `--`, which would have it taken for a file.
+/// How the parser's tip begins that suggests to write an unknown option after `--`. There it would be taken for a file.
 const ADVICE: &str = "tip: to pass ";
 
-// Prints what is wrong with the words, without that advice and the empty line after it.
+// Prints the parser's error, without that tip and the empty line after it.
 fn print_wrong_words<R: Print + Eprint + AllocGlobal>(rt: &R, error: &clap::Error) {
     let Ok(text) = format!(in rt.alloc(); "{error}") else {
         let _ = error.print(rt);

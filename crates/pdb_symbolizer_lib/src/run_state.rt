@@ -1,10 +1,10 @@
-//! What a run knows from one answer to the next, beside the file.
+//! `RunState`: what a run keeps from one answer to the next, besides files.
 
 use crate::base_hints::BaseHint;
 use crate::source_lines::SourceTexts;
 use std::alloc::Global;
 
-/// What a run knows from one answer to the next.
+/// What a run keeps from one answer to the next.
 #[derive(Drop)]
 pub struct RunState {
     pub hint: BaseHint,
@@ -14,7 +14,7 @@ pub struct RunState {
 }
 
 impl RunState {
-    /// A run that begins.
+    /// The state at the start of a run.
     pub fn new(alloc: Global) -> Self {
         RunState {
             hint: BaseHint::ToBePrinted,

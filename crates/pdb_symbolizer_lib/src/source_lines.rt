@@ -1,14 +1,14 @@
-//! Lines of source files around the places that frames name, each after its number, as `llvm-symbolizer` shows them.
+//! Numbered lines of source files around the lines of frames, as `llvm-symbolizer` prints them.
 
 use crate::file_bytes::read_regular_file;
 use pdb_records_files::ran_out_of_memory;
 use std::alloc::{AllocError, Global};
 use std::rt::Files;
 
-/// How many files are kept at most.
+/// The maximum number of cached files.
 const FILES: usize = 16;
 
-/// The greatest length of a file of which lines are shown, in bytes.
+/// The maximum length of a source file that is read, in bytes.
 const LONGEST: u64 = 1 << 24;
 
 /// A source file. One that can't be read has no lines.
@@ -20,7 +20,7 @@ struct SourceText {
     starts: Vec<usize>,
 }
 
-/// Source files that were read.
+/// A cache of source files.
 #[derive(Drop)]
 pub struct SourceTexts {
     alloc: Global,
@@ -28,7 +28,7 @@ pub struct SourceTexts {
 }
 
 impl SourceTexts {
-    /// None yet.
+    /// An empty cache.
     pub fn new(alloc: Global) -> Self {
         SourceTexts {
             alloc,
@@ -36,8 +36,8 @@ impl SourceTexts {
         }
     }
 
-    /// So many lines of a file, in whose middle this one stands, which is marked. Empty where the file can't be read or
-    /// ends before them.
+    /// The text of `count` lines of a file around the given line, which is marked. Empty if the file can't be read or
+    /// is shorter.
     pub fn around<R: Files>(
         &mut self,
         rt: &R,
@@ -55,7 +55,7 @@ impl SourceTexts {
         }
     }
 
-    // Reads a file, in place of all others where these are many. Answers its position.
+    // Reads a file into the cache, which is emptied first if it is full. Returns the file's position.
     fn read<R: Files>(&mut self, rt: &R, name: &str) -> Result<usize, AllocError> {
         let text = read_text(rt, self.alloc, name)?;
         if self.texts.len() >= FILES {
@@ -119,7 +119,7 @@ impl SourceText {
         Ok(out)
     }
 
-    // The bytes of a line, of which the first has the number one, without its end.
+    // The bytes of a line without its line end. The first line is number 1.
     fn line(&self, number: u32) -> Option<&[u8]> {
         let position = (number as usize).checked_sub(1)?;
         let start = *self.starts.get(position)?;
@@ -133,7 +133,7 @@ impl SourceText {
     }
 }
 
-// How many digits the numbers before the last one have at most.
+// The width of the line numbers: the number of digits of the line before the last one.
 fn width_of(last: u32) -> usize {
     match last.saturating_sub(1).checked_ilog10() {
         Some(power) => (power as usize).saturating_add(1),

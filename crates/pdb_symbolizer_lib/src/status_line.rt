@@ -1,29 +1,29 @@
-//! What a terminal is shown while a large file is read or written, or many requests are answered.
+//! `StatusLine`: shows progress on a terminal while a large file is read or written, or many requests are answered.
 
 use std::io;
 use std::time::{Clock, Duration, Instant};
 
-/// How many seconds may pass until something is shown.
+/// The seconds between two messages.
 const PAUSE: u64 = 1;
 
-/// The length of files whose reading takes long, in bytes.
+/// The length from which a file takes long to read, in bytes.
 const LONG: usize = 1 << 26;
 
-/// What is shown of long work on standard error, where somebody watches.
+/// Shows the progress of long work on standard error, if that is a terminal.
 #[derive(Drop)]
 pub struct StatusLine {
     watched: bool,
-    /// When something was shown last, or the work began.
+    /// When the last message was printed, or the work began.
     shown: Option<Instant>,
     /// How many bytes were written.
     written: usize,
-    /// How many requests were answered, and how many of them when something was shown last.
+    /// How many requests were answered, and how many of them before the last message.
     answered: u64,
     shown_answered: u64,
 }
 
 impl StatusLine {
-    /// Work that begins now.
+    /// Starts to watch over work.
     pub fn new<R: Clock>(rt: &R, watched: bool) -> StatusLine {
         StatusLine {
             watched,
@@ -34,14 +34,14 @@ impl StatusLine {
         }
     }
 
-    /// Shows that a file of this length is being read, where that takes long.
+    /// Prints that a file of this length is being read, if that takes long.
     pub fn print_size<R: Eprint>(&self, rt: &R, path: &str, length: usize) {
         if self.watched && length >= LONG {
             let _ = eprintln!(rt; "pdb_symbolizer: reading {path}, {length} bytes");
         }
     }
 
-    /// Counts bytes that were written, and shows their number once a second.
+    /// Counts bytes that were written, and prints their number once a second.
     fn count<R: Clock + Eprint>(&mut self, rt: &R, written: usize) {
         self.written = self.written.saturating_add(written);
         if self.watched && self.pause(rt).is_some() {
@@ -49,8 +49,8 @@ impl StatusLine {
         }
     }
 
-    /// Counts a request that was answered. Once a second it shows how many were, how many files are open, and how many
-    /// bytes these take in memory.
+    /// Counts an answered request. Once a second this prints how many were answered, how many files are open, and how
+    /// many bytes these take in memory.
     pub fn count_request<R: Clock + Eprint>(&mut self, rt: &R, files: usize, bytes: u64) {
         self.answered = self.answered.saturating_add(1);
         if !self.watched {
@@ -67,7 +67,7 @@ impl StatusLine {
         }
     }
 
-    /// How long ago something was shown, if that is a second or more. If so, it counts anew.
+    /// The time since the last message, if that is at least a second. Then the time starts anew.
     fn pause<R: Clock>(&mut self, rt: &R) -> Option<Duration> {
         match (Instant::now(rt), self.shown) {
             (Ok(now), Some(shown)) => {
@@ -83,7 +83,7 @@ impl StatusLine {
     }
 }
 
-// How many a second so many in this time are.
+// The rate per second of `count` requests in this time.
 fn rate(count: u64, time: Duration) -> u64 {
     let milliseconds = time
         .as_secs()
@@ -95,7 +95,7 @@ fn rate(count: u64, time: Duration) -> u64 {
         .unwrap_or(0)
 }
 
-/// A writer of which is shown how much it took.
+/// A writer that counts its bytes for the status line.
 #[derive(Drop)]
 pub struct Watched<'p, R, W> {
     pub rt: &'p R,

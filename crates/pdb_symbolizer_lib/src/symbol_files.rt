@@ -1,4 +1,4 @@
-//! The Breakpad symbol file that `--dump-syms` writes, on standard output or into a store.
+//! Writes the Breakpad symbol file of `--dump-syms`, to standard output or into a store.
 
 use crate::frame_data_records::{FrameRecords, frame_data_records};
 use crate::identities::identity_in;
@@ -17,7 +17,7 @@ use std::alloc::Global;
 use std::io::{self, Read, Seek};
 use std::rt::Files;
 
-/// Writes the functions of a file as a symbol file. It has to be a PDB file, or a program with one.
+/// Writes a symbol file of a file's functions. The file must be a PDB file, or a program with one.
 pub fn dump_symbols<R: Files + Print + Eprint + AllocGlobal>(
     rt: &R,
     status_line: &StatusLine,
@@ -41,7 +41,7 @@ pub fn dump_symbols<R: Files + Print + Eprint + AllocGlobal>(
     dump_over(rt, options, place, path, &input, identity, &frames)
 }
 
-// Which build a file is of, if it is a PDB file that says so.
+// The identity of a file, if it is a PDB file that has one.
 fn identity_of_source<F: Read + Seek + Drop>(
     alloc: Global,
     source: &mut SourceFile<F>,

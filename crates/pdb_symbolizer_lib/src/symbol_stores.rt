@@ -1,4 +1,4 @@
-//! A symbol store: a folder in which a symbol file stands under the name of its PDB file and its debug id.
+//! Writes symbol files into a symbol store, a folder where they are named by PDB file and debug id.
 
 use crate::frame_data_records::FrameRecords;
 use crate::paths::file_name;
@@ -9,7 +9,7 @@ use std::fs;
 use std::io::{BufWriter, Write};
 use std::rt::Files;
 
-/// The path of a module's symbol file in a store, `STORE/app.pdb/DEBUGID/app.sym`. Folders that aren't there are made.
+/// The path of a module's symbol file in a store, `STORE/app.pdb/DEBUGID/app.sym`. Missing folders are created.
 pub fn make_place<R: Files + AllocGlobal>(
     rt: &R,
     store: &str,
@@ -23,8 +23,8 @@ pub fn make_place<R: Files + AllocGlobal>(
     Ok(path)
 }
 
-/// Writes a symbol file that stands at this path once it is whole. Until then it is written beside that, with `.part`
-/// after its name, and what was written is removed where the writing fails.
+/// Writes a symbol file that appears at this path only when it is complete. Until then its name ends in `.part`, and if
+/// writing fails that file is removed.
 pub fn write_whole<'a, R: Files + AllocGlobal, S: FrameSource<'a>>(
     rt: &R,
     path: &str,
@@ -55,7 +55,7 @@ fn write_and_rename<'a, R: Files + AllocGlobal, S: FrameSource<'a>>(
     Ok(())
 }
 
-/// Writes the records of all functions, and then those by which callers are found.
+/// Writes the records of all functions, and then the unwind records.
 pub fn write_records<'a, S: FrameSource<'a>, W: Write>(
     alloc: Global,
     out: &mut W,
@@ -77,7 +77,7 @@ fn store_folder(
     format!(in alloc; "{store}/{}/{}", module.pdb_name, module.debug_id.compact())
 }
 
-// The name without `.pdb` after it, in letters of either case.
+// The name without its ending `.pdb`, in any case.
 fn stem(name: &str) -> &str {
     match name.rsplit_once('.') {
         Some((stem, ending)) if ending.eq_ignore_ascii_case("pdb") => stem,

@@ -1,4 +1,4 @@
-//! Answers to requests of the symbolication API on standard input: one request, or one on each line.
+//! Answers requests of the symbolication API on standard input: the whole input is one request, or each line is.
 
 use crate::kept_files::KeptFiles;
 use crate::options::{Options, RequestForm};
@@ -18,11 +18,11 @@ use std::time::Clock;
 /// The greatest length of a line with a request, with its end, in bytes.
 const LONGEST_LINE: u64 = 1 << 24;
 
-/// What a text came to that was to be a request.
+/// What became of a text that should be a request.
 #[derive(Drop)]
 enum Outcome {
     Answered,
-    /// What is wrong with it, in words.
+    /// The text isn't a valid request, for this reason.
     Refused(String),
 }
 
@@ -42,7 +42,7 @@ pub fn symbolicate<R: Files + Input + Print + Eprint + Clock + AllocGlobal>(
     }
 }
 
-// Answers the request that standard input is. No file is kept, since nothing comes after it.
+// Answers the whole input as one request. Files don't stay open, because no request follows.
 fn answer_input<R: Files + Input + Print + Eprint + AllocGlobal>(
     rt: &R,
     options: &Options<'_>,
@@ -56,7 +56,7 @@ fn answer_input<R: Files + Input + Print + Eprint + AllocGlobal>(
     }
 }
 
-// Answers each line of standard input before the next is read.
+// Answers each line of standard input before it reads the next one.
 fn answer_lines<R: Files + Input + Print + Eprint + Clock + AllocGlobal>(
     rt: &R,
     status_line: &mut StatusLine,
@@ -81,7 +81,7 @@ fn answer_lines<R: Files + Input + Print + Eprint + Clock + AllocGlobal>(
     }
 }
 
-// Reads the next line and answers it. `None` where there is none.
+// Reads the next line and answers it; `None` at the end of the input.
 fn answer_next_line<R: Files + Print + Eprint + AllocGlobal, B: BufRead>(
     rt: &R,
     options: &Options<'_>,
@@ -102,7 +102,7 @@ fn answer_next_line<R: Files + Print + Eprint + AllocGlobal, B: BufRead>(
     Ok(Some(answer_text(rt, options, files, line)?))
 }
 
-// What was read, unless the input can't be read or there was no memory.
+// Turns an error of reading the input into the run's error.
 fn known_input(read: io::Result<usize>) -> Result<(), RunError> {
     match read {
         Ok(_) => Ok(()),
@@ -111,7 +111,7 @@ fn known_input(read: io::Result<usize>) -> Result<(), RunError> {
     }
 }
 
-// Answers a text that is to be a request: by a line with the answer, or with what is wrong with it.
+// Writes a line with the answer to a request, or with the error in its text.
 fn answer_text<R: Files + Print + Eprint + AllocGlobal>(
     rt: &R,
     options: &Options<'_>,

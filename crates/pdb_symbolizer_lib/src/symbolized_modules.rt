@@ -1,4 +1,4 @@
-//! The modules that a request asks for: their PDB files in folders, and what is found at the offsets of each.
+//! Finds the PDB files of the modules in a request, and the texts at the offsets of each.
 
 use crate::folder_listings::FolderListings;
 use crate::kept_files::{KeptFiles, UsedFile, open_used};
@@ -14,8 +14,8 @@ use std::alloc::{AllocError, Global};
 use std::io::{Read, Seek};
 use std::rt::Files;
 
-/// The texts of each module, `None` where no file of it is found over which something can be answered. One module after
-/// the other is read, and only then kept for the next requests.
+/// The texts of each module; `None` if no usable file of the module is found. A module's file is put into the cache
+/// before the next module is read.
 pub fn texts_of_modules<R: Files + Eprint + Print + AllocGlobal>(
     rt: &R,
     options: &Options<'_>,
@@ -30,7 +30,7 @@ pub fn texts_of_modules<R: Files + Eprint + Print + AllocGlobal>(
     Ok(texts)
 }
 
-// The texts of a module. A file that is found and refused has a line on standard error.
+// The texts of a module. If its file is found but refused, the error is printed.
 fn texts_of_module<R: Files + Eprint + Print + AllocGlobal>(
     rt: &R,
     options: &Options<'_>,
@@ -67,7 +67,7 @@ fn texts_of_file<R: Files + Eprint + AllocGlobal>(
     Ok(Some(texts))
 }
 
-// The texts of a module over its file, which knows them for the next requests.
+// The texts of a module, looked up in its file and added to the file's cache.
 fn texts_over<R: Eprint + AllocGlobal, F: Read + Seek + Drop>(
     rt: &R,
     options: &Options<'_>,
@@ -82,7 +82,7 @@ fn texts_over<R: Eprint + AllocGlobal, F: Read + Seek + Drop>(
     Ok(texts)
 }
 
-// The texts of a module, and those among them that weren't known.
+// The texts of a module, and those among them that weren't cached.
 fn texts_by(
     alloc: Global,
     options: &Options<'_>,
@@ -139,7 +139,7 @@ fn function_of<'f>(
     })
 }
 
-// What is known of a frame. An empty name counts for none.
+// A frame's function, file and line. An empty name counts as none.
 fn place_of<'f>(frame: &'f Frame<'_>) -> SymbolizedFrame<'f> {
     SymbolizedFrame {
         function: match &frame.function {

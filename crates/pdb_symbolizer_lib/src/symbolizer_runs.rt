@@ -1,4 +1,4 @@
-//! A run of `pdb_symbolizer`: reads the file, and answers each address of the words or of standard input.
+//! Runs `pdb_symbolizer` with the words of its command line.
 
 ghost use Rattle.std.specs.Prelude.{◌≡◌};
 ghost use Rattle.pdb_symbolizer_lib.specs.ExitStatuses.{exit_status};
@@ -18,7 +18,7 @@ use crate::symbolication::symbolicate;
 use std::rt::{Env, Files};
 use std::time::Clock;
 
-/// Does what the words of a command line ask for, prints why where that ends early, and answers the exit status.
+/// Does what the command line asks for, prints the error if the run ends early, and returns the exit status.
 pub fn run_words<R: Env + Files + Input + Print + Eprint + Clock + AllocGlobal>(
     rt: &R,
     status_line: &mut StatusLine,
@@ -28,7 +28,7 @@ pub fn run_words<R: Env + Files + Input + Print + Eprint + Clock + AllocGlobal>(
     exit_status(rt, &ended)
 }
 
-// The exit status of a run, of which is printed why it ended early.
+// Prints why a run ended early, if it did, and returns its exit status.
 fn exit_status<R: Print + Eprint + AllocGlobal>(rt: &R, ended: &Result<(), RunError>) -> u8
     ensures { result ≡ exit_status ended.now }
 {

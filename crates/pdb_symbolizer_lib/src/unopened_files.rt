@@ -1,11 +1,11 @@
-//! Answers where a file can't be opened.
+//! Answers for files that can't be opened.
 
 use crate::options::Options;
 use crate::outputs::{Output, write_line_answer};
 use crate::run_errors::RunError;
 use pdb_answer_printer::{InputLine, InputTarget, Sort, Style, write_json_error, write_unknown};
 
-/// Ends a run whose file an option names: by why it can't be opened, in JSON as an object.
+/// Ends a run whose file, named by an option, can't be opened: prints the error, in JSON as an object.
 pub fn end_unopened<R: Print + Eprint + AllocGlobal, W: Output>(
     rt: &R,
     out: &mut W,
@@ -25,8 +25,8 @@ pub fn end_unopened<R: Print + Eprint + AllocGlobal, W: Output>(
     write_error(rt, out, options, &request, cause)
 }
 
-/// Answers the request of a line that names such a file: as unknown after why it can't be opened, in JSON by an object
-/// that says why.
+/// Answers a line whose file can't be opened: prints the error, and answers that nothing is known. In JSON the answer
+/// is an object with the error.
 pub fn answer_unopened<R: Print + Eprint + AllocGlobal, W: Output>(
     rt: &R,
     out: &mut W,

@@ -1,4 +1,4 @@
-//! The unwind records of a symbol file, by the unwind tables of a program for x64 or ARM64.
+//! The unwind records of a symbol file, from the unwind tables of a program for x64 or ARM64.
 
 use crate::file_bytes::FileBytes;
 use crate::input_files::open_named_file;
@@ -8,8 +8,8 @@ use std::alloc::AllocError;
 use std::fmt;
 use std::rt::Files;
 
-/// The STACK CFI records of a program for x64 or ARM64; none of other files. A function whose unwind info can't be read
-/// has a line on standard error.
+/// The STACK CFI records of a program for x64 or ARM64; empty for other files. Prints a line on standard error for each
+/// function whose unwind info can't be read.
 pub fn unwind_records<R: Files + Eprint + AllocGlobal>(
     rt: &R,
     path: &str,

@@ -1,4 +1,4 @@
-//! Answers to the addresses of a command line, over one file.
+//! Answers the addresses of a command line over one file.
 
 ghost use Rattle.std.specs.Prelude.{◌≡◌, false, map, string_bytes, IfErr, IfOk};
 ghost use Rattle.std.specs.List.{filter_map};
@@ -19,7 +19,7 @@ use std::alloc::{AllocError, Global};
 use std::io::{Read, Seek};
 use std::rt::Files;
 
-/// Answers the addresses of the command line. What is known of the modules that they lie in is read before.
+/// Answers the addresses of the command line, after reading the modules that own their code.
 pub fn answer_words<R: Files + Eprint + AllocGlobal, W: Output, F: Read + Seek + Drop>(
     rt: &R,
     out: &mut W,
@@ -42,7 +42,7 @@ pub fn answer_words<R: Files + Eprint + AllocGlobal, W: Output, F: Read + Seek +
     write_words(rt, out, questions, &mut context, state, words)
 }
 
-// The addresses of code that the words ask for.
+// The code addresses that the words ask for.
 fn addresses_of_words(
     alloc: Global,
     questions: &Questions<'_, '_>,
@@ -60,7 +60,7 @@ fn addresses_of_words(
     Ok(addresses)
 }
 
-// Writes the answers to the words, by one context. In JSON they are one array.
+// Writes the answers to the words, with one context. In JSON they are one array.
 fn write_words<R: Files + Eprint + AllocGlobal, W: Output>(
     rt: &R,
     out: &mut W,
@@ -84,7 +84,7 @@ fn write_words<R: Files + Eprint + AllocGlobal, W: Output>(
     out.write_text(list_end(style))
 }
 
-// What stands before the answers to words.
+// The text before all answers.
 fn list_start(style: Style) -> &'static str
     ensures { result.now ≡ list_start style }
 {
@@ -94,7 +94,7 @@ fn list_start(style: Style) -> &'static str
     }
 }
 
-// What stands before an answer, which may be the first.
+// The text before an answer.
 fn separator(style: Style, first: bool) -> &'static str
     ensures { result.now ≡ separator style first }
 {
@@ -104,7 +104,7 @@ fn separator(style: Style, first: bool) -> &'static str
     }
 }
 
-// What stands after the answers to words.
+// The text after all answers.
 fn list_end(style: Style) -> &'static str
     ensures { result.now ≡ list_end style }
 {

@@ -10,7 +10,7 @@ is_within lo hi x = nat_le lo x && nat_lt x hi
 abbrev pub has : List (ℕ × ℕ) → ℕ → Bool
 has ranges x = list_any (λ range. is_within range.0 range.1 x) ranges
 
--- the ranges are runs: the first begins at n or later, none is empty, and before each later one a number is left out
+-- the ranges are runs: the first begins at n or later, none is empty, and there is a gap before each later one
 abbrev pub IsRunsFrom : ℕ → List (ℕ × ℕ) → Type 0
 IsRunsFrom n [] = Unit {0}
 IsRunsFrom n (run ∷ runs) = (n ≤ run.0) × (run.0 < run.1) × IsRunsFrom (run.1 + 1) runs

@@ -1,7 +1,7 @@
--- Numbers as the fewest ranges that hold them.
+-- Sets of numbers as the fewest ranges.
 use Rattle.std.specs.Prelude.{ℕ, Bool, true, false, ◌&&◌, List, [], ◌∷◌, ◌++◌, nat_lt, nat_le, min, max, if◌then◌else◌}
 
--- the runs with the range from lo to hi put in: runs that overlap or touch it become one run with it
+-- the runs with the range from lo to hi added; runs that overlap or touch it are merged with it
 abbrev pub with_range : ℕ → ℕ → List (ℕ × ℕ) → List (ℕ × ℕ)
 with_range lo hi [] = (lo, hi) ∷ []
 with_range lo hi (run ∷ runs) =
@@ -14,18 +14,18 @@ abbrev pub ending_after : ℕ → List (ℕ × ℕ) → List (ℕ × ℕ)
 ending_after bound [] = []
 ending_after bound (run ∷ runs) = if nat_le run.1 bound then ending_after bound runs else run ∷ runs
 
--- the range from lo to hi as a list of one, or of none where it is empty
+-- the range from lo to hi as a list with one element; empty if the range is
 abbrev pub one_or_none : ℕ → ℕ → List (ℕ × ℕ)
 one_or_none lo hi = if nat_lt lo hi then (lo, hi) ∷ [] else []
 
--- what the others leave of the range from lo to hi
+-- the parts of the range from lo to hi outside the other ranges
 abbrev pub range_without : ℕ → ℕ → List (ℕ × ℕ) → List (ℕ × ℕ)
 range_without lo hi [] = one_or_none lo hi
 range_without lo hi (other ∷ others) =
     if nat_le hi other.0 then one_or_none lo hi
     else one_or_none lo other.0 ++ range_without (max lo other.1) hi others
 
--- what the others leave of the runs: others that end before a run begins can touch no later run either
+-- the parts of the runs outside the other ranges; others that end before a run begins touch no later run either
 abbrev pub difference : List (ℕ × ℕ) → List (ℕ × ℕ) → List (ℕ × ℕ)
 difference [] others = []
 difference (run ∷ runs) others =

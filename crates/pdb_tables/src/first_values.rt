@@ -1,4 +1,4 @@
-//! Maps in which the first value of a key stays.
+//! `insert_first`: inserts into a map, and keeps the first value of each key.
 
 ghost use Rattle.std.specs.Prelude.{◌≡◌, Some, None, OnOk, OnErr, if◌then◌else◌};
 ghost use Rattle.std.specs.BTreeMap.{get};
@@ -7,9 +7,9 @@ ghost use Rattle.std.specs.Option.{option_or};
 use std::alloc::AllocError;
 use std::collections::BTreeMap;
 
-/// Puts a value under a key, unless something stands under it already.
+/// Inserts a value for a key, unless the key already has one.
 ///
-/// Answers `AllocError` where memory runs out, and the map stays.
+/// `AllocError` if memory runs out; then the map doesn't change.
 pub fn insert_first<K: Ord + Drop, V: Drop>(
     map: &mut BTreeMap<K, V>,
     key: K,

@@ -1,4 +1,4 @@
-//! What has a key: lists of it by their keys, of each key the first.
+//! `Keyed`: elements with a key. Lists of them are sorted by key, or reduced to the first of each key.
 
 ghost use Rattle.std.specs.Prelude.{◌≡◌, OnOk, OnErr, IfOk};
 ghost use Rattle.pdb_tables.specs.InOrder.{in_order};
@@ -6,7 +6,7 @@ ghost use Rattle.pdb_tables.specs.Keyed.{is_lower, firsts_after, first_of_each_k
 
 use std::alloc::{AllocError, Global};
 
-/// What stands in a list by its key.
+/// An element that has a key.
 pub trait Keyed: Copy {
     type Key: Copy + Ord + Drop;
 
@@ -18,9 +18,9 @@ pub trait Keyed: Copy {
         ensures { result ≡ key_of self.now };
 }
 
-/// Puts entries in order of their keys. Entries with one key stay in the order that they had.
+/// Sorts entries by key. The sort is stable: entries with the same key keep their order.
 ///
-/// Answers `AllocError` where memory runs out, and the list stays.
+/// `AllocError` if memory runs out; then the list doesn't change.
 pub fn sort_by_key<T: Keyed>(entries: &mut Vec<T>) -> Result<(), AllocError>
     ensures state { OnOk result (entries.new.items ≡ in_order (is_lower T.Key.cmp T.key_of) entries.old.items) }
     ensures unchanged_if_refused { OnErr result (entries.new.items ≡ entries.old.items) }
@@ -28,7 +28,7 @@ pub fn sort_by_key<T: Keyed>(entries: &mut Vec<T>) -> Result<(), AllocError>
     entries.sort_by_key(|entry| entry.key())
 }
 
-// Of neighbours with one key, the first.
+// Keeps the first of each run of neighbours with the same key.
 fn first_neighbours<T: Keyed>(alloc: Global, entries: &[T]) -> Result<Vec<T>, AllocError>
     ensures { IfOk result (λ v. v.items ≡ firsts_after T.Key.cmp T.key_of None entries.now) }
 {
@@ -44,7 +44,7 @@ fn first_neighbours<T: Keyed>(alloc: Global, entries: &[T]) -> Result<Vec<T>, Al
     Ok(firsts)
 }
 
-/// The entries by their keys, of each key the first. Answers `AllocError` where memory runs out.
+/// Sorts entries by key, and keeps only the first of each key. `AllocError` if memory runs out.
 pub fn first_of_each_key<T: Keyed>(alloc: Global, mut entries: Vec<T>) -> Result<Vec<T>, AllocError>
     ensures { IfOk result (λ v. v.items ≡ first_of_each_key T.Key.cmp T.key_of entries.items) }
 {

@@ -1,12 +1,12 @@
-//! Tables that crates of this repository have in common, and sets of numbers that hold only their runs.
+//! Tables and sets of numbers that the other crates share.
 //!
-//! A [`RangeSet`] holds the numbers of any ranges that are put into it, such as the bytes that some code takes,
-//! and answers them as the fewest ranges that hold the same numbers, in ascending order. A range is a pair
-//! `(lo, hi)`, with `lo` in it and `hi` out of it. [`Segments`] has a value for each number of its ranges.
+//! A [`RangeSet`] is a set of numbers, such as the addresses of some code. Any ranges can be added to it. It returns
+//! them as the fewest ranges with the same numbers, in ascending order. A range is a pair `(lo, hi)` that includes `lo`
+//! and excludes `hi`. [`Segments`] has a value for each number of its ranges.
 //!
-//! What has a key ([`Keyed`]) is put in order by it, of each key the first, and found by [`neighbours_of`], which
-//! counts each entry that it looks at. In a map [`insert_first`] leaves the first value of a key, an [`OnceMap`] has
-//! what was made so far, once for each key, and [`make_slot`] makes room in a list of slots.
+//! Elements with a key ([`Keyed`]) can be sorted by it, reduced to the first of each key, and found by
+//! [`neighbours_of`], which counts the entries that it compares. [`insert_first`] keeps the first value of each key in
+//! a map. An [`OnceMap`] caches values that are made once for each key. [`make_slot`] extends a list of slots.
 #![tactic(auto)]
 
 mod first_values;

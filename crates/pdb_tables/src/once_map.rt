@@ -1,4 +1,4 @@
-//! Maps of what is made once for each key.
+//! `OnceMap`: a cache of values that are made once for each key.
 
 ghost use Rattle.std.specs.BTreeMap.{get, Updates};
 ghost use Rattle.std.specs.Option.{option_copied};
@@ -9,26 +9,26 @@ ghost use Rattle.pdb_tables.specs.OnceMap.{HoldsOfEach};
 use std::alloc::{AllocError, Global};
 use std::collections::BTreeMap;
 
-/// What is made once for each key.
+/// A value that is made once for each key.
 pub trait Once<K: Ord + Drop>: Drop {
-    // What it is made from.
+    // The data from which the value is made.
     ghost Source: { Type 0 };
 
-    // It is what is made from a source for a key.
+    // Whether it is the value that is made from a source for a key.
     ghost fits: { Source → K → Self → Type 0 };
 
-    // Only equal keys tie.
+    // Only equal keys compare as equal.
     ghost antisymmetric: { IsAntisymmetric K.cmp };
 }
 
-/// What was made so far, by its keys.
+/// The values that were made so far, by key.
 #[derive(Drop)]
 pub struct OnceMap<K: Ord + Drop, T: Once<K>> {
     made: BTreeMap<K, T>,
 }
 
 impl<K: Ord + Drop, T: Once<K>> OnceMap<K, T> {
-    /// Nothing yet. It takes no memory.
+    /// An empty map. It takes no memory.
     pub fn new(alloc: Global) -> Self
         ensures { (source : T.Source) → HoldsOfEach K.cmp (T.fits source) result.made }
     {
@@ -37,7 +37,7 @@ impl<K: Ord + Drop, T: Once<K>> OnceMap<K, T> {
         }
     }
 
-    /// What was made for a key.
+    /// The value for a key, if it was made.
     pub fn get(&self, key: &K) -> Option<&T>
         ensures answer { option_copied result ≡ get K.cmp self.now.made key.now }
         ensures fits { IfSome result (λ content. (source : T.Source)
@@ -46,7 +46,7 @@ impl<K: Ord + Drop, T: Once<K>> OnceMap<K, T> {
         self.made.get(key)
     }
 
-    /// Keeps what was made for a key. Answers `AllocError` where memory runs out, and the map stays.
+    /// Stores the value for a key. `AllocError` if memory runs out; then the map doesn't change.
     pub fn insert(&mut self, key: K, content: T) -> Result<(), AllocError>
         ensures state { OnOk result (Updates K.cmp self.old.made self.new.made key (Some content)) }
         ensures unchanged_if_refused { OnErr result (self.new.made.entries ≡ self.old.made.entries) }

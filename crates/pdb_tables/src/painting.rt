@@ -1,4 +1,4 @@
-//! How a segment is laid over a list of others, and how a whole list is painted in turn.
+//! Paints segments over a list of others, one or many.
 
 ghost use Rattle.std.specs.Prelude.{◌≡◌, ℕ, ◌*◌, Bool, None, ◌+◌, ◌<◌, ◌≤◌, ◌++◌, length, IfOk, IsOk, OnOk, OnErr};
 ghost use Rattle.pdb_tables.specs.Segments.{painted, painted_in_turn, value_at, IsOrderedFrom};
@@ -8,7 +8,7 @@ ghost use Rattle.pdb_tables.specs.Painting.{HaveEdges};
 use crate::segment::Segment;
 use std::alloc::{AllocError, Global};
 
-// Appends a segment cut to the numbers from lo up to hi, if anything is left of it.
+// Appends the part of a segment from `lo` up to, but not including, `hi`, if it isn't empty.
 fn push_clipped<T: Copy>(
     all: &mut Vec<Segment<T>>,
     segment: Segment<T>,
@@ -26,8 +26,8 @@ fn push_clipped<T: Copy>(
     Ok(())
 }
 
-// Appends what the segments have from lo up to hi, and returns those from the first one on that goes past hi. It
-// reads no further.
+// Appends the parts of segments from `lo` up to, but not including, `hi`. Returns the segments from the first one on
+// that ends after `hi`, and reads no further.
 fn push_segments_within<'a, T: Copy>(
     all: &mut Vec<Segment<T>>,
     segments: &'a [Segment<T>],
@@ -47,7 +47,7 @@ fn push_segments_within<'a, T: Copy>(
     Ok(&[])
 }
 
-// Appends what the segments have from lo on.
+// Appends the parts of segments from `lo` on.
 fn push_segments_from<T: Copy>(
     all: &mut Vec<Segment<T>>,
     segments: &[Segment<T>],
@@ -61,7 +61,7 @@ fn push_segments_from<T: Copy>(
     Ok(())
 }
 
-// The segments of the first list, and what they leave uncovered of the second. Each list is gone through once.
+// The segments of the first list, and the parts of the second list that they don't cover. Each list is read once.
 pub(crate) fn overlaid<T: Copy>(
     alloc: Global,
     tops: &[Segment<T>],
@@ -83,7 +83,7 @@ pub(crate) fn overlaid<T: Copy>(
     Ok(all)
 }
 
-// Where the last segment ends: 0 where there is none.
+// The end of the last segment; 0 if there is none.
 fn end_of<T: Copy>(segments: &[Segment<T>]) -> u64
     ensures { result ≡ end_from 0 segments.now }
 {
@@ -93,8 +93,8 @@ fn end_of<T: Copy>(segments: &[Segment<T>]) -> u64
     }
 }
 
-// Gives the numbers from lo up to the one before hi a value. It takes constant time, but for the growth of the list,
-// where no segment goes past lo.
+// Gives the numbers from `lo` up to, but not including, `hi` a value. If no segment ends after `lo`, this takes
+// amortized constant time.
 pub(crate) fn paint<T: Copy>(
     segments: &mut Vec<Segment<T>>,
     lo: u64,
@@ -126,7 +126,7 @@ pub(crate) fn paint<T: Copy>(
     Ok(())
 }
 
-// One segment, or none where it is empty.
+// A list of one segment; without it if the segment is empty.
 fn one_or_none<T: Copy>(alloc: Global, segment: Segment<T>) -> Result<Vec<Segment<T>>, AllocError>
     ensures { IfOk result (λ all. all.items ≡ clipped segment.start segment.end segment) }
 {
@@ -135,8 +135,8 @@ fn one_or_none<T: Copy>(alloc: Global, segment: Segment<T>) -> Result<Vec<Segmen
     Ok(all)
 }
 
-// The segments after those of the list were painted one after the other: those of the later half lie over those of the
-// earlier one, so each is copied as often as the list can be halved.
+// The result of painting the segments in turn. The later half of the list is painted over the earlier half, so each
+// segment is copied O(log n) times.
 pub(crate) fn painted_in_turn<T: Copy>(
     alloc: Global,
     segments: &[Segment<T>],

@@ -1,19 +1,19 @@
-//! The count of the entries of a table that a search looks at, which bounds its cost.
+//! `Probes`: counts the entries of a table that a search compares, which bounds its cost.
 
 ghost use Rattle.std.specs.Prelude.{◌≡◌, ℕ, ◌<◌, ◌≤◌, ◌-◌, ◌^◌};
 ghost use Rattle.pdb_tables.specs.Probes.{one_more};
 
 use std::marker::Model;
 
-/// How many entries of a table a search looked at.
+/// The number of entries that a search compared.
 ///
-/// Each entry that is looked at is counted by a `tick`, so the count that one search adds bounds its cost.
+/// A `tick` counts each entry that is compared. So the number that a search adds bounds its cost.
 #[derive(Debug, Drop)]
 pub struct Probes {
     count: u64,
 }
 
-// Clauses see probes as their count.
+// Contracts see probes as their count.
 impl Model for Probes {
     ghost Value = { ℕ };
 
@@ -21,7 +21,7 @@ impl Model for Probes {
 }
 
 impl Probes {
-    /// No entry was looked at yet.
+    /// A count of 0.
     pub fn new() -> Self
         ensures { result ≡ 0 }
     {
@@ -36,7 +36,7 @@ impl Probes {
         self.count = self.count.saturating_add(1);
     }
 
-    /// The number of entries that were looked at.
+    /// The number of entries that were compared.
     pub fn count(&self) -> u64
         ensures { result ≡ self.now }
     {

@@ -1,4 +1,4 @@
-//! Sets of 64-bit numbers, held as their runs: adding, union, difference, and whether one holds another.
+//! `RangeSet`: a set of 64-bit numbers, stored as runs, with union, difference and a subset test.
 
 ghost use Rattle.std.specs.Prelude.{◌≡◌, ℕ, ◌||◌, ◌&&◌, ◌↔◌, not, true, List, [], IfOk, OnOk, OnErr, IsTrue};
 ghost use Rattle.pdb_tables.specs.RangeSet.{is_within, has, IsRunsFrom};
@@ -7,17 +7,17 @@ use crate::runs;
 use std::alloc::{AllocError, Global};
 use std::marker::Model;
 
-/// A set of 64-bit numbers, held as its runs.
+/// A set of 64-bit numbers, stored as its runs.
 ///
-/// A run is a range of numbers that are all in the set, with neither the number before it nor the one past it. So the
-/// set takes memory for each run and not for each number, and the ranges 10 to 20 and 20 to 30 lie in it as the one run
-/// `(10, 30)`. The end of a range is not in it, so the number `u64::MAX` is in no set.
+/// A run is a maximal range of numbers in the set: neither the number before it nor the one after it is in the set. So
+/// the set takes memory for each run and not for each number. For example, the ranges 10 to 20 and 20 to 30 are stored
+/// as the single run `(10, 30)`. The end of a range is excluded, so `u64::MAX` is in no set.
 #[derive(Debug, Drop)]
 pub struct RangeSet {
     runs: Vec<(u64, u64)>,
 }
 
-// Clauses see a set as its runs, the lowest first.
+// Contracts see a set as its runs, the lowest first.
 impl Model for RangeSet {
     ghost Value = { List (ℕ × ℕ) };
 
@@ -27,7 +27,7 @@ impl Model for RangeSet {
 }
 
 impl RangeSet {
-    /// The set with no number. It takes no memory; what is added later comes from `alloc`.
+    /// An empty set. It takes no memory; later memory comes from `alloc`.
     pub fn empty(alloc: Global) -> Self
         ensures { result ≡ [] }
     {
@@ -36,10 +36,10 @@ impl RangeSet {
         }
     }
 
-    /// The set of the numbers in any of the rows, which may stand in any order, overlap, and be empty.
+    /// The set of the numbers in any of the rows. These may be in any order, overlap, and be empty.
     ///
-    /// It sorts a copy of the rows, so it suits rows whose order is not known better than one `add` for each. Answers
-    /// `AllocError` where memory runs out.
+    /// It sorts a copy of the rows. For rows in unknown order this is faster than calling `add` for each. `AllocError`
+    /// if memory runs out.
     pub fn of_rows(alloc: Global, rows: &[(u64, u64)]) -> Result<Self, AllocError>
         ensures { IfOk result (λ set. (x : ℕ) → has set x ≡ has rows.now x) }
     {
@@ -50,10 +50,10 @@ impl RangeSet {
         Ok(RangeSet { runs })
     }
 
-    /// Adds the numbers from `lo` up to the one before `hi`, and nothing where `hi` is not above `lo`.
+    /// Adds the numbers from `lo` up to, but not including, `hi`; nothing if `hi` isn't greater than `lo`.
     ///
-    /// A range that begins no lower than the last run does costs constant time on average, and any other range the time
-    /// to copy the runs. Answers `AllocError` where memory runs out, and the set stays.
+    /// If the range begins at or after the start of the last run, this takes amortized constant time; otherwise the
+    /// runs are copied. `AllocError` if memory runs out; then the set doesn't change.
     pub fn add(&mut self, lo: u64, hi: u64) -> Result<(), AllocError>
         ensures state { OnOk result
             ((x : ℕ) → has self.new x ≡ (has self.old x || is_within lo hi x)) }
@@ -62,8 +62,8 @@ impl RangeSet {
         runs::add_range(&mut self.runs, lo, hi)
     }
 
-    /// Adds the numbers of another set, in one pass over the runs of both. Answers `AllocError` where memory runs out,
-    /// and the set stays.
+    /// Adds the numbers of another set, in one pass over the runs of both. `AllocError` if memory runs out; then the
+    /// set doesn't change.
     pub fn union(&mut self, other: &RangeSet) -> Result<(), AllocError>
         ensures state { OnOk result
             ((x : ℕ) → has self.new x ≡ (has self.old x || has other.now x)) }
@@ -73,10 +73,10 @@ impl RangeSet {
         Ok(())
     }
 
-    /// Takes the numbers of another set away, in one pass over the runs of both.
+    /// Removes the numbers of another set, in one pass over the runs of both.
     ///
-    /// A run may come apart, as `(10, 40)` without `(20, 30)` does into `(10, 20)` and `(30, 40)`, so this takes memory
-    /// too. Answers `AllocError` where memory runs out, and the set stays.
+    /// A run may be split: `(10, 40)` without `(20, 30)` becomes `(10, 20)` and `(30, 40)`. So this may allocate.
+    /// `AllocError` if memory runs out; then the set doesn't change.
     pub fn minus(&mut self, other: &RangeSet) -> Result<(), AllocError>
         ensures state { OnOk result
             ((x : ℕ) → has self.new x ≡ (has self.old x && not (has other.now x))) }
@@ -86,14 +86,15 @@ impl RangeSet {
         Ok(())
     }
 
-    /// Whether each number of the other set is in this one too. It takes one pass over the runs of both, and no memory.
+    /// Whether each number of the other set is in this one. Takes one pass over the runs of both, and allocates
+    /// nothing.
     pub fn is_superset(&self, other: &RangeSet) -> bool
         ensures { IsTrue result ↔ ((x : ℕ) → has other.now x ≡ true → has self.now x ≡ true) }
     {
         runs::covers(&self.runs, &other.runs)
     }
 
-    /// The runs as pairs of the first number and the one past the last, the lowest first.
+    /// The runs, as pairs of the first number and the one after the last, the lowest first.
     pub fn runs(&self) -> &[(u64, u64)]
         ensures answer { result.now ≡ self.now }
         ensures maximal { IsRunsFrom 0 self.now }

@@ -1,4 +1,4 @@
-//! Lists of runs: a range put in, union, difference, and whether the runs of one list cover another's.
+//! Operations on lists of runs: adding a range, union, difference, and a subset test.
 
 ghost use Rattle.std.specs.Prelude.{◌≡◌, ℕ, ◌||◌, ◌&&◌, ◌++◌, not, IfOk, OnOk, OnErr};
 ghost use Rattle.pdb_tables.specs.RangeSet.{is_within, has, IsRunsFrom};
@@ -6,7 +6,7 @@ ghost use Rattle.pdb_tables.specs.Runs.{with_range, ending_after, range_without,
 
 use std::alloc::{AllocError, Global};
 
-// A new list of the runs with lo..hi put in. It reads all runs.
+// A new list of the runs with lo..hi added. It reads all runs.
 fn with_range(
     alloc: Global,
     runs: &[(u64, u64)],
@@ -33,8 +33,7 @@ fn with_range(
     Ok(all)
 }
 
-// Puts lo..hi into the runs. It takes constant time, but for the growth of the list, where lo is no less than the start
-// of the last run.
+// Adds lo..hi to the runs. If `lo` is at or after the start of the last run, this takes amortized constant time.
 pub(crate) fn add_range(runs: &mut Vec<(u64, u64)>, lo: u64, hi: u64) -> Result<(), AllocError>
     requires { IsRunsFrom 0 runs.old.items }
     ensures ordered { IsRunsFrom 0 runs.new.items }
@@ -60,7 +59,7 @@ pub(crate) fn add_range(runs: &mut Vec<(u64, u64)>, lo: u64, hi: u64) -> Result<
     Ok(())
 }
 
-// Puts each of the ranges into the runs, which is fastest where the ranges ascend.
+// Adds each of the ranges to the runs. This is fastest if the ranges are in ascending order.
 pub(crate) fn add_ranges(
     runs: &mut Vec<(u64, u64)>,
     ranges: &[(u64, u64)],
@@ -76,7 +75,7 @@ pub(crate) fn add_ranges(
     Ok(())
 }
 
-// Puts into `all` the runs up to the first that begins after `bound`, and returns the others.
+// Adds the runs before the first one that begins after `bound` to `all`, and returns the others.
 fn add_beginning_by<'a>(
     all: &mut Vec<(u64, u64)>,
     runs: &'a [(u64, u64)],
@@ -96,7 +95,7 @@ fn add_beginning_by<'a>(
     Ok(&[])
 }
 
-// The runs of the numbers in either list. Both are read once, and merged by where their runs begin.
+// The runs of the numbers in either list. Both are read once, and merged by the starts of their runs.
 pub(crate) fn union_of(
     alloc: Global,
     runs: &[(u64, u64)],
@@ -116,7 +115,7 @@ pub(crate) fn union_of(
     Ok(all)
 }
 
-// The runs from the first one on that goes past `bound`.
+// The runs from the first one on that ends after `bound`.
 fn ending_after(runs: &[(u64, u64)], bound: u64) -> &[(u64, u64)]
     ensures { result.now ≡ ending_after bound runs.now }
 {
@@ -128,7 +127,8 @@ fn ending_after(runs: &[(u64, u64)], bound: u64) -> &[(u64, u64)]
     &[]
 }
 
-// Appends what the others leave of lo..hi. It reads the others up to the first that begins at `hi` or later.
+// Appends the parts of lo..hi that the others don't cover. It reads the others up to the first that begins at `hi` or
+// later.
 fn push_range_without(
     left: &mut Vec<(u64, u64)>,
     lo: u64,
@@ -153,7 +153,7 @@ fn push_range_without(
     Ok(())
 }
 
-// The runs of the numbers that are in the runs and not in the others. Each list is gone through once.
+// The runs of the numbers that are in the runs and not in the others. Each list is read once.
 pub(crate) fn difference_of(
     alloc: Global,
     runs: &[(u64, u64)],
@@ -174,7 +174,7 @@ pub(crate) fn difference_of(
     Ok(left)
 }
 
-// Whether each of the others lies within one of the runs. Each list is gone through once.
+// Whether each of the others is inside one of the runs. Each list is read once.
 pub(crate) fn covers(runs: &[(u64, u64)], others: &[(u64, u64)]) -> bool
     ensures { result ≡ covers runs.now others.now }
 {

@@ -1,4 +1,4 @@
-//! The search in lists whose keys ascend, in which each look at an entry counts.
+//! `neighbours_of`: a binary search in lists with ascending keys, which counts the entries that it compares.
 
 ghost use Rattle.std.specs.Prelude.{◌≡◌, ◌+◌, ◌<◌, ◌≤◌, None, find, length, not, slice_get, Some};
 ghost use Rattle.std.specs.List.{position_or_len};
@@ -9,18 +9,18 @@ ghost use Rattle.pdb_tables.specs.Probes.{digits, one_more};
 use crate::keyed::Keyed;
 use crate::probes::Probes;
 
-/// The entries next to a key.
+/// The entries next to a key in a list.
 #[derive(Clone, Copy, Debug)]
 pub struct Neighbours<T> {
-    /// The last entry whose key is this one or a lower one.
+    /// The last entry whose key isn't greater.
     pub up_to: Option<T>,
-    /// The first entry whose key is above it.
+    /// The first entry whose key is greater.
     pub above: Option<T>,
-    /// The place of that one, or the length of the list where there is none.
+    /// The position of that entry, or the length of the list if there is none.
     pub place: usize,
 }
 
-// The entry at a place, which counts as one more probe.
+// The entry at a position, counted as one more probe.
 fn look<'e, T: Keyed>(entries: &'e [T], at: usize, looks: &mut Probes) -> &'e T
     requires { at < length entries.now }
     ensures answer { slice_get entries.now at ≡ Some result.now }
@@ -31,7 +31,7 @@ fn look<'e, T: Keyed>(entries: &'e [T], at: usize, looks: &mut Probes) -> &'e T
     &entries[at]
 }
 
-// The last entry ahead of a place. The search looked at it, so it isn't counted again.
+// The entry before a position. The search already compared it, so it isn't counted again.
 fn entry_ahead_of<T: Copy>(entries: &[T], place: usize) -> Option<T>
     ensures { result ≡ ahead_of None entries.now place }
 {
@@ -41,8 +41,7 @@ fn entry_ahead_of<T: Copy>(entries: &[T], place: usize) -> Option<T>
     }
 }
 
-/// The entries next to a place in a list: the one ahead of it, and the one that stands there. Both are counted in
-/// `probes`.
+/// The entries next to a position in a list: the one before it, and the one at it. `probes` counts both.
 pub fn neighbours_at<T: Copy>(entries: &[T], place: usize, probes: &mut Probes) -> Neighbours<T>
     ensures up_to { result.up_to ≡ ahead_of None entries.now place }
     ensures above { result.above ≡ slice_get entries.now place }
@@ -55,7 +54,7 @@ pub fn neighbours_at<T: Copy>(entries: &[T], place: usize, probes: &mut Probes) 
     entries_next_to(entries, place)
 }
 
-// The entries next to a place in a list, which aren't counted.
+// The entries next to a position in a list, without counting them.
 fn entries_next_to<T: Copy>(entries: &[T], place: usize) -> Neighbours<T>
     ensures up_to { result.up_to ≡ ahead_of None entries.now place }
     ensures above { result.above ≡ slice_get entries.now place }
@@ -68,10 +67,10 @@ fn entries_next_to<T: Copy>(entries: &[T], place: usize) -> Neighbours<T>
     }
 }
 
-/// The entries next to a key in a list whose keys ascend, by a binary search that takes no memory.
+/// The entries next to a key in a list with ascending keys, by a binary search that allocates nothing.
 ///
-/// Each entry that is looked at is counted in `probes`. They are no more than the length of the list has binary
-/// digits: at most 10 of 1,000 entries, and none of none.
+/// `probes` counts the entries that are compared: at most as many as the length of the list has binary digits. These
+/// are at most 10 for 1,000 entries, and 0 for an empty list.
 pub fn neighbours_of<T: Keyed>(entries: &[T], key: T::Key, probes: &mut Probes) -> Neighbours<T>
     requires { KeysAscend T.Key.cmp T.key_of entries.now }
     ensures up_to { result.up_to ≡ last_over (λ x. not (is_above T.Key.cmp T.key_of key x)) None entries.now }
@@ -90,6 +89,6 @@ pub fn neighbours_of<T: Keyed>(entries: &[T], key: T::Key, probes: &mut Probes) 
             from = middle + 1;
         }
     }
-    // The search looked at both of them.
+    // The search already compared both.
     entries_next_to(entries, from)
 }

@@ -1,13 +1,13 @@
-//! A segment: a range of numbers that have one value.
+//! `Segment`: a range of numbers with one value.
 
 use crate::keyed::Keyed;
 
-/// A range of numbers, from `start` up to the one before `end`, that have one value.
+/// A range of numbers, from `start` up to, but not including, `end`, with one value.
 #[derive(Clone, Copy, Debug)]
 pub struct Segment<T> {
     /// The first number.
     pub start: u64,
-    /// The number past the last.
+    /// The number after the last.
     pub end: u64,
     /// The value of each of them.
     pub value: T,

@@ -1,4 +1,4 @@
-//! Tables of values of 64-bit numbers, held as segments that a binary search finds.
+//! `Segments`: a table from 64-bit numbers to values, stored as segments that a binary search finds.
 
 ghost use Rattle.std.specs.Prelude.{◌≡◌, ℕ, ◌+◌, ◌*◌, ◌≤◌, [], length, None, IfOk, IsOk, OnOk, OnErr};
 ghost use Rattle.pdb_tables.specs.Probes.{digits};
@@ -11,16 +11,16 @@ use crate::segment::Segment;
 use std::alloc::{AllocError, Global};
 use std::marker::Model;
 
-/// A table of values of 64-bit numbers, held as segments: ranges of numbers that have one value.
+/// A table from 64-bit numbers to values, stored as segments: ranges of numbers with one value.
 ///
-/// It takes memory for each segment and not for each number. No two segments overlap, and they stand in order, so the
-/// value of a number is found by a binary search. The end of a range is not in it, so `u64::MAX` has no value.
+/// It takes memory for each segment and not for each number. Segments don't overlap, and are sorted, so the value of a
+/// number is found by a binary search. The end of a range is excluded, so `u64::MAX` has no value.
 #[derive(Drop)]
 pub struct Segments<T: Copy> {
     segments: Vec<Segment<T>>,
 }
 
-// Clauses see a table as the list of its segments, which shows the value of each number.
+// Contracts see a table as the list of its segments, which give the value of each number.
 impl<T: Copy> Model for Segments<T> {
     ghost use Rattle.std.specs.Prelude.{List};
     ghost use Rattle.pdb_tables.specs.declared.segment.Segment.{Segment};
@@ -34,7 +34,7 @@ impl<T: Copy> Model for Segments<T> {
 }
 
 impl<T: Copy> Segments<T> {
-    /// The table in which no number has a value. It takes no memory; what is painted later comes from `alloc`.
+    /// A table in which no number has a value. It takes no memory; later memory comes from `alloc`.
     pub fn new(alloc: Global) -> Self
         ensures { result ≡ [] }
     {
@@ -43,10 +43,10 @@ impl<T: Copy> Segments<T> {
         }
     }
 
-    /// The table after the segments were painted one after the other, in the order of the list, so that the last one
-    /// over a number gives its value. They may overlap, and be empty.
+    /// The table after painting the segments in turn: the last one that contains a number gives its value. They may
+    /// overlap, and be empty.
     ///
-    /// Its time grows with n log n for n segments, whatever they are. Answers `AllocError` where memory runs out.
+    /// Takes O(n log n) time for any n segments. `AllocError` if memory runs out.
     pub fn from_overlapping(alloc: Global, segments: &[Segment<T>]) -> Result<Self, AllocError>
         ensures answer { IfOk result (λ table.
             (x : ℕ) → value_at table x ≡ painted_in_turn segments.now None x) }
@@ -63,11 +63,11 @@ impl<T: Copy> Segments<T> {
         self.segments.len()
     }
 
-    /// Gives the numbers from `lo` up to the one before `hi` a value, whatever they had, and leaves all others as they
-    /// were. Nothing changes where `hi` is not above `lo`.
+    /// Gives the numbers from `lo` up to, but not including, `hi` a value, and leaves all others as they were. Nothing
+    /// changes if `hi` isn't greater than `lo`.
     ///
-    /// A range that begins where the last segment ends, or later, costs constant time on average, and any other range
-    /// the time to copy the segments. Answers `AllocError` where memory runs out, and the table stays.
+    /// If the range begins at or after the end of the last segment, this takes amortized constant time; otherwise the
+    /// segments are copied. `AllocError` if memory runs out; then the table doesn't change.
     pub fn paint(&mut self, lo: u64, hi: u64, value: T) -> Result<(), AllocError>
         ensures state { OnOk result
             ((x : ℕ) → value_at self.new x ≡ painted lo hi value (value_at self.old x) x) }
@@ -79,10 +79,10 @@ impl<T: Copy> Segments<T> {
         painting::paint(&mut self.segments, lo, hi, value)
     }
 
-    /// The value of `x`, by a binary search that takes no memory.
+    /// The value of `x`, by a binary search that allocates nothing.
     ///
-    /// Each segment that is looked at is counted in `probes`. They are no more than the number of segments has binary
-    /// digits: at most 10 of 1,000 segments, and none of none.
+    /// `probes` counts the segments that are compared: at most as many as their number has binary digits. These are at
+    /// most 10 for 1,000 segments, and 0 for an empty table.
     pub fn find(&self, x: u64, probes: &mut Probes) -> Option<T>
         ensures answer { result ≡ value_at self.now x }
         ensures no_fewer { probes.old ≤ probes.new }

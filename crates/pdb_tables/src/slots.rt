@@ -1,13 +1,13 @@
-//! Lists of slots, of which each is empty or holds something.
+//! `make_slot`: extends a list of slots, each of which is empty or has a value.
 
 ghost use Rattle.std.specs.Prelude.{◌≡◌, ◌<◌, ℕ, length, OnOk};
 ghost use Rattle.pdb_tables.specs.Slots.{held};
 
 use std::alloc::AllocError;
 
-/// Makes a slot at a position, where there is none, and empty ones before it. All slots hold what they held.
+/// Makes sure that there is a slot at a position, by appending empty ones. Existing slots don't change.
 ///
-/// Answers `AllocError` where memory runs out.
+/// `AllocError` if memory runs out.
 pub fn make_slot<T: Drop>(slots: &mut Vec<Option<T>>, position: usize) -> Result<(), AllocError>
     ensures unchanged { (other : ℕ) → held slots.new.items other ≡ held slots.old.items other }
     ensures slot { OnOk result (position < length slots.new.items) }

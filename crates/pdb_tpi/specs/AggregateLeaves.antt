@@ -1,4 +1,5 @@
--- Classes, structures, interfaces, unions and enumerations, in both layouts, and aliases. Places are counted from after the kind.
+-- Classes, structures, interfaces, unions and enumerations, in both layouts, and aliases. Offsets count from after the
+-- kind.
 use Rattle.std.specs.Prelude.{ℕ, ◌==◌, nat_lt, bit_and, not, Bool, List, drop, length, Option, Some, None, Result, Ok}
 use Rattle.std.specs.Prelude.{Err, if◌then◌else◌}
 use Rattle.pdb_records.specs.declared.error.StreamError.{StreamError}
@@ -12,20 +13,20 @@ use Rattle.pdb_tpi.specs.declared.aggregate_leaves.SizedNames.{SizedNames}
 use Rattle.pdb_tpi.specs.TypeNames.{name_in}
 use Rattle.pdb_tpi.specs.NumericLeaves.{numeric_leaf, size_in}
 
--- fwdref of the properties: the record is a forward reference, and the type is defined by another one
+-- fwdref of the properties: whether the record is a forward reference, and another record defines the type
 abbrev pub is_forward_reference : ℕ → Bool
 is_forward_reference property = not (bit_and property 0x80 == 0)
 
--- hasuniquename of the properties: a unique name stands after the name
+-- hasuniquename of the properties: whether a unique name follows the name
 abbrev pub has_unique_name : ℕ → Bool
 has_unique_name property = not (bit_and property 0x200 == 0)
 
--- the unique name that these bytes begin with, where the properties say that there is one
+-- the unique name at the start of these bytes, if the properties have hasuniquename
 abbrev pub unique_name : ℕ → List ℕ → Result (Option (List ℕ)) StreamError
 unique_name property bytes =
     if has_unique_name property then (name_in bytes >>= λ unique. Ok (Some unique.0)) else Ok None
 
--- what stands after the indices of a class or a union: its size as a numeric leaf, its name, and its unique name
+-- the end of a class or a union, after its indices: its size as a numeric leaf, its name, and its unique name
 unfoldable pub sized_names : ℕ → List ℕ → Result SizedNames StreamError
 sized_names property bytes = do
   size ← size_in bytes
@@ -59,8 +60,8 @@ class class_kind bytes =
     (sized_names (two_byte_number (drop 2 bytes)) (drop 16 bytes)
     >>= λ named. Ok (class_by class_kind (two_byte_number (drop 2 bytes)) named))
 
--- the same in the newer layout: property in four bytes at 0, of which the lower two are read, three indices, a number
--- of two bytes, and size and names at 18
+-- a class, a structure or an interface of the newer layout: property in four bytes at 0, of which the lower two are
+-- read, three indices, a two-byte number, and size and names at 18
 unfoldable pub class2 : ClassKind → List ℕ → Result TypeData StreamError
 class2 class_kind bytes =
     if nat_lt (length bytes) 18 then Err CUT else
@@ -74,8 +75,8 @@ union bytes =
     (sized_names (two_byte_number (drop 2 bytes)) (drop 8 bytes)
     >>= λ named. Ok (union_by (two_byte_number (drop 2 bytes)) named))
 
--- the same in the newer layout: property in four bytes at 0, of which the lower two are read, an index, a number of two
--- bytes, and size and names at 10
+-- a union of the newer layout: property in four bytes at 0, of which the lower two are read, an index, a two-byte
+-- number, and size and names at 10
 unfoldable pub newer_union : List ℕ → Result TypeData StreamError
 newer_union bytes =
     if nat_lt (length bytes) 10 then Err CUT else
@@ -91,8 +92,9 @@ enumeration bytes =
       underlying_type = record { 0 = number (drop 4 bytes) };
     })))
 
--- another name of a type (lfAlias): utype at 0, and its name at 4. Of all kinds of types in the records an enumeration
--- alone has a name and the size of another type, so an alias is one of its name, with its type underneath
+-- another name of a type (lfAlias): utype at 0, and its name at 4. The records have no kind for an alias. Only an
+-- enumeration has a name and the size of another type, so an alias becomes an enumeration with its name and its type
+-- underneath
 unfoldable pub alias : List ℕ → Result TypeData StreamError
 alias bytes =
     if nat_lt (length bytes) 4 then Err CUT else
@@ -101,7 +103,7 @@ alias bytes =
       underlying_type = record { 0 = number bytes };
     })))
 
--- one value of an enumeration (lfEnumerate): after two bytes of attributes the value as a numeric leaf, and its name
+-- one value of an enumeration (lfEnumerate): two bytes of attributes, the value as a numeric leaf, and its name
 unfoldable pub enumerate : List ℕ → Result TypeData StreamError
 enumerate bytes =
     if nat_lt (length bytes) 2 then Err CUT else (do

@@ -1,4 +1,4 @@
--- Ids: what the content of each kind that is read says. Places are counted from after the kind.
+-- Ids: the fields of each kind that is read. Offsets count from after the kind.
 use Rattle.std.specs.Prelude.{ℕ, ◌==◌, nat_lt, List, [], drop, length, codes, Option, Some, None, Result, Ok, Err}
 use Rattle.std.specs.Prelude.{if◌then◌else◌}
 use Rattle.pdb_records.specs.declared.error.Error.{Error}
@@ -20,7 +20,7 @@ use Rattle.pdb_tpi.specs.Leaves.{lf_buildinfo, lf_func_id, lf_mfunc_id, lf_strin
 use Rattle.pdb_tpi.specs.Leaves.{lf_udt_mod_src_line, lf_udt_src_line}
 use Rattle.pdb_tpi.specs.TypeNames.{name_in}
 
--- the kinds of ids that have a name in the records, by their leaves
+-- the kind of an id that has a name in the records, by its leaf
 abbrev pub id_kind : ℕ → Option IdKind
 id_kind number =
     if number == lf_func_id then Some leaf.Function else
@@ -56,7 +56,7 @@ member_function bytes =
       name = name.0;
     })))
 
--- LF_SUBSTR_LIST: count, and as many indices
+-- LF_SUBSTR_LIST: count, and `count` indices
 unfoldable pub string_list : List ℕ → Result IdData StreamError
 string_list bytes = index_list bytes >>= λ substrings. Ok (id.StringList substrings)
 
@@ -66,7 +66,7 @@ string bytes =
     if nat_lt (length bytes) 4 then Err CUT else
     (name_in (drop 4 bytes) >>= λ name. Ok (id.String (record { name = name.0 })))
 
--- what a record of a kind that has a name says: two kinds have nothing but the name
+-- the content of a record whose kind has a name; for two kinds it is empty
 abbrev pub data_of : IdKind → List ℕ → Result IdData StreamError
 data_of leaf.Function bytes = function bytes
 data_of leaf.MemberFunction bytes = member_function bytes
@@ -75,11 +75,11 @@ data_of leaf.String bytes = string bytes
 data_of leaf.BuildInfo bytes = Ok (id.Other (codes "BuildInfo"))
 data_of leaf.UserDefinedTypeSource bytes = Ok (id.Other (codes "UserDefinedTypeSource"))
 
--- what a record of an id says, by its kind and what stands after it
+-- the content of an id record, by its kind and the bytes after it
 unfoldable pub id_data : ℕ → List ℕ → Result IdData Error
 id_data = content_by id_kind data_of
 
--- what records of ids mean
+-- how records are read as ids
 abbrev pub ids : ItemMeaning IdIndex IdData
 ids = record { index = λ number. record { 0 = number }; content = id_data; first = [] }
 
@@ -87,6 +87,6 @@ ids = record { index = λ number. record { 0 = number }; content = id_data; firs
 abbrev pub no_ids : ItemInformation IdIndex IdData
 no_ids = record { items = nothing_read None }
 
--- the ids of a stream: one without bytes has none
+-- the ids of a stream; none for an empty stream
 abbrev pub ids_of : List ℕ → Result (ItemInformation IdIndex IdData) StreamError
 ids_of stream = if length stream == 0 then Ok no_ids else stream_items ids stream

@@ -1,4 +1,4 @@
--- Lists of indices, with how many there are in front of them.
+-- Lists of indices, each with its count first.
 use Rattle.std.specs.Prelude.{ℕ, ◌*◌, nat_lt, List, take, drop, length, Result, Err, if◌then◌else◌}
 use Rattle.pdb_records.specs.declared.error.StreamError.{StreamError}
 use Rattle.pdb_records.specs.declared.types.TypeIndex.{TypeIndex}
@@ -11,7 +11,7 @@ use Rattle.pdb_msf.specs.Readings.{whole}
 abbrev pub index : List ℕ → TypeIndex
 index bytes = record { 0 = number bytes }
 
--- the indices of a list: their count, and so many indices, where there are bytes for all of them
+-- the indices of a list: a count, and that many indices; `CUT` if there are too few bytes
 unfoldable pub index_list : List ℕ → Result (List TypeIndex) StreamError
 index_list bytes =
     if nat_lt (length bytes) 4 then Err CUT else

@@ -1,4 +1,4 @@
--- What a stream of types or of ids lists: its header, the records after it, and the items that these are.
+-- Streams of types or of ids: the header, the records after it, and their items.
 use Rattle.std.specs.Prelude.{ℕ, ◌+◌, ◌-◌, ◌^◌, min, List, [], ◌∷◌, ◌++◌, drop, slice_get, Option, option_map}
 use Rattle.std.specs.Prelude.{Result, Ok}
 use Rattle.pdb_records.specs.declared.error.Error.{Error}
@@ -12,35 +12,35 @@ use Rattle.pdb_tpi.specs.declared.type_stream_header.TypeHeader.{TypeHeader}
 use Rattle.pdb_tpi.specs.TypeStreamHeader.{type_header}
 use Rattle.pdb_tpi.specs.TypeRecords.{TypeBytes, type_records}
 
--- a list of types or ids: the index of the first one, their records in order, and why these end early, if they do
+-- a list of types or ids: the index of the first one, the records in order, and the fault if they end early
 pub record TypeList : Type 0 where
   pub first : ℕ
   pub records : List TypeBytes
   pub fault : Option StreamError
 
--- the list that stands after a header: the records of TypeRecordBytes bytes, as far as the stream has them
+-- the list after a header: the records in TypeRecordBytes bytes, as far as the stream has them
 abbrev pub list_behind : TypeHeader → List ℕ → TypeList
 list_behind header stream =
     let bytes = substream header.type_record_bytes (drop header.header_size stream) in
     let records = with_fault bytes.fault (type_records bytes.bytes) in
     record { first = header.type_index_begin; records = records.items; fault = records.fault }
 
--- the list that a stream is, where it has a header
+-- the list in a stream; an error if the header is broken
 abbrev pub type_list : List ℕ → Result TypeList StreamError
 type_list stream = type_header stream >>= λ header. Ok (list_behind header stream)
 
--- what the records of a list mean: the index of a number, what a record says by its kind and what stands after it, and
--- the items that every list has in front of those of a stream
+-- how the records of a list are read as items: the index for a number, the content of a record by its kind and the
+-- bytes after it, and the items that every list begins with
 pub record ItemMeaning (I D : Type 0) : Type 0 where
   pub index : ℕ → I
   pub content : ℕ → List ℕ → Result D Error
   pub first : List (Item I D)
 
--- the index of the record at a position: they are numbered one by one, up to the greatest number of four bytes
+-- the index of the record at a position: indices are consecutive, up to 2 ^ 32 - 1
 abbrev pub index_at : ℕ → ℕ → ℕ
 index_at first position = min (first + position) (2 ^ 32 - 1)
 
--- the item that a record is, by its position among those of which the first has this number
+-- the item of a record, by its position in a list whose first index is `first`
 abbrev pub item_of : {I D : Type 0} → ItemMeaning I D → ℕ → ℕ → TypeBytes → Item I D
 item_of meaning first position bytes = record {
   index = meaning.index (index_at first position);
@@ -51,12 +51,12 @@ item_of meaning first position bytes = record {
 abbrev pub item_at : {I D : Type 0} → ItemMeaning I D → TypeList → ℕ → Option (Item I D)
 item_at meaning list position = option_map (item_of meaning list.first position) (slice_get list.records position)
 
--- the items of records, each by its position among them, of which the first one is given
+-- the items of records, by their positions; `position` is that of the first record
 abbrev pub items_from : {A : Type 0} → (ℕ → TypeBytes → A) → ℕ → List TypeBytes → List A
 items_from item position [] = []
 items_from item position (bytes ∷ rest) = item position bytes ∷ items_from item (position + 1) rest
 
--- all items of a list, after those that every list has
+-- all items of a list, after the items that every list begins with
 abbrev pub list_items : {I D : Type 0} → ItemMeaning I D → TypeList → ItemInformation I D
 list_items meaning list = record {
   items = record {

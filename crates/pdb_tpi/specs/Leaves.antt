@@ -30,7 +30,7 @@ lf_arglist = 0x1201
 abbrev pub lf_fieldlist : ℕ
 lf_fieldlist = 0x1203
 
--- some bits of a number
+-- a bit field
 abbrev pub lf_bitfield : ℕ
 lf_bitfield = 0x1205
 
@@ -62,7 +62,7 @@ lf_union = 0x1506
 abbrev pub lf_enum : ℕ
 lf_enum = 0x1507
 
--- an array whose dimensions a record of their own has
+-- an array whose dimensions are in another record
 abbrev pub lf_dimarray : ℕ
 lf_dimarray = 0x1508
 
@@ -102,7 +102,7 @@ lf_func_id = 0x1601
 abbrev pub lf_mfunc_id : ℕ
 lf_mfunc_id = 0x1602
 
--- how a module was built
+-- the build command of a module
 abbrev pub lf_buildinfo : ℕ
 lf_buildinfo = 0x1603
 
@@ -122,7 +122,7 @@ lf_udt_src_line = 0x1606
 abbrev pub lf_udt_mod_src_line : ℕ
 lf_udt_mod_src_line = 0x1607
 
--- the leaves of numbers begin here
+-- the lowest leaf of a number
 abbrev pub lf_numeric : ℕ
 lf_numeric = 0x8000
 

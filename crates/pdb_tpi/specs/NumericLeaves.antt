@@ -1,4 +1,4 @@
--- Numeric leaves: numbers in as many bytes as their kind says.
+-- Numeric leaves: numbers whose size is given by their kind.
 use Rattle.std.specs.Prelude.{ℕ, ◌==◌, nat_lt, ℤ, pos, negsuc, List, take, drop, length, slice_index, Result, Ok, Err}
 use Rattle.std.specs.Prelude.{if◌then◌else◌}
 use Rattle.std.specs.Int.{cast_signed, w8, w16, w32, w64}
@@ -12,11 +12,11 @@ use Rattle.pdb_msf.specs.NumberLists.{number, two_byte_number}
 use Rattle.pdb_tpi.specs.Leaves.{lf_char, lf_long, lf_numeric, lf_quadword, lf_short, lf_ulong, lf_uquadword}
 use Rattle.pdb_tpi.specs.Leaves.{lf_ushort}
 
--- the number that the first eight bytes are, the lowest byte first
+-- the first eight bytes as a number, lowest byte first
 abbrev pub eight_byte_number : List ℕ → ℕ
 eight_byte_number bytes = little_number 8 (take 8 bytes)
 
--- a number that is made of so many bytes, where they are there, and what stands after them
+-- a number made of the first `size` bytes, and the bytes after it; `CUT` if there are too few
 abbrev pub number_of : ℕ → (List ℕ → Variant) → List ℕ → Result (Variant × List ℕ) StreamError
 number_of size made bytes = if nat_lt (length bytes) size then Err CUT else Ok (made bytes, drop size bytes)
 
@@ -33,15 +33,15 @@ wide_number leaf bytes =
     if leaf == lf_uquadword then number_of 8 (λ bytes. U64 (eight_byte_number bytes)) bytes else
     Err BAD_NUMBER
 
--- the number that these bytes begin with, and what stands after it: the first two bytes are a number below LF_NUMERIC,
--- or the leaf of the number after them
+-- the numeric leaf at the start of these bytes, and the bytes after it. The first two bytes are a number below
+-- LF_NUMERIC, or the leaf of the number after them
 unfoldable pub numeric_leaf : List ℕ → Result (Variant × List ℕ) StreamError
 numeric_leaf bytes =
     if nat_lt (length bytes) 2 then Err CUT else
     if nat_lt (two_byte_number bytes) lf_numeric then Ok (U16 (two_byte_number bytes), drop 2 bytes) else
     wide_number (two_byte_number bytes) (drop 2 bytes)
 
--- a signed number as a size, which is none below zero
+-- a signed number as a size; a negative one is an error
 abbrev pub signed_size : ℤ → Result ℕ StreamError
 signed_size (pos size) = Ok size
 signed_size (negsuc below) = Err BAD_NUMBER
@@ -57,7 +57,7 @@ size_of (I16 size) = signed_size size
 size_of (I32 size) = signed_size size
 size_of (I64 size) = signed_size size
 
--- the size that these bytes begin with, and what stands after it
+-- the size at the start of these bytes, as a numeric leaf, and the bytes after it
 unfoldable pub size_in : List ℕ → Result (ℕ × List ℕ) StreamError
 size_in bytes = do
   leaf ← numeric_leaf bytes

@@ -1,4 +1,4 @@
--- Primitives: the types that the compiler brings, which have no record, with their kinds of pointers.
+-- Primitives: the built-in types, which have no record, and pointers to them.
 use Rattle.std.specs.Prelude.{ℕ, ◌+◌, ◌*◌, ◌==◌, nat_lt, List, [], ◌∷◌, codes, map, Ok, if◌then◌else◌}
 use Rattle.std.specs.List.{flat_map, range_with_len}
 use Rattle.pdb_records.specs.declared.types.Item.{Item}
@@ -22,7 +22,7 @@ primitive_kinds =
     (0x74, kind.I32) ∷ (0x75, kind.U32) ∷ (0x76, kind.I64) ∷ (0x77, kind.U64) ∷ (0x78, kind.I128) ∷
     (0x79, kind.U128) ∷ (0x7a, kind.RChar16) ∷ (0x7b, kind.RChar32) ∷ (0x7c, kind.Char8) ∷ []
 
--- T_PVOID, void in the mode CV_TM_NPTR, which says no width: compilers write it for std::nullptr_t
+-- T_PVOID, void in the mode CV_TM_NPTR, which has no width: compilers write it for std::nullptr_t
 abbrev pub t_pvoid : ℕ
 t_pvoid = 0x0103
 
@@ -30,21 +30,21 @@ t_pvoid = 0x0103
 abbrev pub t_64pvoid : ℕ
 t_64pvoid = 0x0603
 
--- the type std::nullptr_t: of all kinds of types in the records an enumeration alone has a name and the size of another
--- type, so it is one of that name, with a pointer underneath
+-- the type std::nullptr_t. The records have no kind for it. Only an enumeration has a name and the size of another
+-- type, so it becomes an enumeration with that name and a pointer underneath
 abbrev pub null_pointer_type : TypeData
 null_pointer_type = Enumeration (record {
   name = codes "std::nullptr_t";
   underlying_type = record { 0 = t_64pvoid };
 })
 
--- the type of an index that stands for a primitive of this kind, in this mode
+-- the type with an index that means a primitive of this kind, in this mode
 abbrev pub type_of_index : ℕ → ℕ → PrimitiveKind → TypeData
 type_of_index index mode kind =
     if index == t_pvoid then null_pointer_type else Primitive (record { kind = kind; indirection = nat_lt 0 mode })
 
--- a primitive in a mode: the second byte of an index is the mode, which is 0 for the primitive itself (CV_TM_DIRECT),
--- and else says how the primitive is pointed to
+-- a primitive in a mode. The second byte of the index is the mode: 0 for the primitive itself (CV_TM_DIRECT), otherwise
+-- the kind of pointer to it
 abbrev pub primitive : ℕ → ℕ × PrimitiveKind → Item TypeIndex TypeData
 primitive mode listed = record {
   index = record { 0 = mode * 256 + listed.0 };

@@ -1,4 +1,4 @@
--- Types: what the content of each kind that is read says. Places are counted from after the kind.
+-- Types: the fields of each kind that is read. Offsets count from after the kind.
 use Rattle.std.specs.Prelude.{ℕ, ◌+◌, ◌/◌, ◌%◌, ◌^◌, ◌==◌, nat_lt, bit_and, not, Bool, List, [], drop, length}
 use Rattle.std.specs.Prelude.{codes, false, slice_index, Option, Some, None, Result, Ok, Err, if◌then◌else◌}
 use Rattle.std.specs.Option.{option_and_then, option_map_or}
@@ -29,7 +29,7 @@ use Rattle.pdb_tpi.specs.Leaves.{lf_alias, lf_dimarray, lf_structure2, lf_union,
 use Rattle.pdb_tpi.specs.NumericLeaves.{size_in}
 use Rattle.pdb_tpi.specs.Primitives.{primitives}
 
--- the kinds of types that have a name in the records, by their leaves
+-- the kind of a type that has a name in the records, by its leaf
 abbrev pub type_kind : ℕ → Option TypeKind
 type_kind number =
     if number == lf_modifier then Some leaf.Modifier else
@@ -57,7 +57,7 @@ type_kind number =
     if number == lf_dimarray then Some leaf.DimensionedArray else
     None
 
--- where the properties of a class or a union stand, in both layouts; another kind has none
+-- the offset of the properties of a class or a union, in both layouts; other kinds have none
 abbrev pub properties_place : TypeKind → Option ℕ
 properties_place (leaf.Class kind) = Some 2
 properties_place leaf.Union = Some 2
@@ -65,18 +65,18 @@ properties_place (leaf.NewerClass kind) = Some 0
 properties_place leaf.NewerUnion = Some 0
 properties_place _ = None
 
--- whether the content has properties at this place, and they are of no forward reference
+-- whether the content has properties at this offset, without the flag of a forward reference
 abbrev pub defines : List ℕ → ℕ → Bool
 defines content place =
     if nat_lt (length content) (place + 2) then false else
     not (is_forward_reference (two_byte_number (drop place content)))
 
--- whether a record of this kind is of a class or a union, and no forward reference to one
+-- whether a record defines a class or a union: it is of such a kind, and no forward reference
 abbrev pub is_definition : ℕ → List ℕ → Bool
 is_definition kind content =
     option_map_or (defines content) (option_and_then properties_place (type_kind kind)) false
 
--- the index of a type that stands at a place
+-- the index of a type at this offset
 abbrev pub type_index : ℕ → List ℕ → TypeIndex
 type_index place bytes = record { 0 = number (drop place bytes) }
 
@@ -105,12 +105,12 @@ pointer_mode attributes =
     if ptrmode == cv_ptr_mode_rvref then Ok mode.RValueReference else
     Err BAD_NUMBER
 
--- the size of a pointer that says none, by ptrtype, the attributes' lowest five bits: CV_PTR_64 has 8 bytes, and
--- CV_PTR_NEAR32 has 4
+-- the size of a pointer without one of its own, by ptrtype, the lowest five bits of the attributes: 8 for CV_PTR_64,
+-- and 4 for CV_PTR_NEAR32
 abbrev pub near_size : ℕ → ℕ
 near_size ptrtype = if ptrtype == cv_ptr_64 then 8 else if ptrtype == cv_ptr_near32 then 4 else 0
 
--- size, six bits of the attributes from bit 13 on: 0 where the pointer has that of its ptrtype
+-- size, six bits of the attributes from bit 13 on; 0 means the size by ptrtype
 abbrev pub pointer_size : ℕ → ℕ
 pointer_size attributes =
     let size = attributes / 2 ^ 13 % 64 in if size == 0 then near_size (attributes % 32) else size
@@ -127,7 +127,7 @@ pointer bytes =
       size = pointer_size attributes;
     })))
 
--- whether funcattr, which stands at a place, says ctor: its second bit
+-- whether funcattr, at this offset, has ctor: its second bit
 abbrev pub is_constructor : ℕ → List ℕ → Bool
 is_constructor place bytes = not (bit_and (slice_index bytes place) 2 == 0)
 
@@ -153,11 +153,11 @@ member_function bytes =
       argument_list = type_index 16 bytes;
     }))
 
--- LF_ARGLIST (lfArgList): count, and as many indices, arg
+-- LF_ARGLIST (lfArgList): count, and `count` indices, arg
 unfoldable pub argument_list : List ℕ → Result TypeData StreamError
 argument_list bytes = index_list bytes >>= λ arguments. Ok (type.ArgumentList arguments)
 
--- a size of an array, which has no more than four bytes
+-- the size of an array; an error if it doesn't fit in four bytes
 abbrev pub array_size : ℕ → Result ℕ StreamError
 array_size size = if nat_lt size (2 ^ 32) then Ok size else Err BAD_NUMBER
 
@@ -169,14 +169,14 @@ array bytes =
       first ← array_size size.0
       Ok (type.Array (record { element_type = type_index 0 bytes; first = first; rest = [] })))
 
--- LF_DIMARRAY (lfDimArray): utype at 0, the type of an element; how many there are stands in the record of diminfo, at
--- 4, which isn't looked at, so that the array has no size
+-- LF_DIMARRAY (lfDimArray): utype at 0, the type of an element. The number of elements is in the record of diminfo, at
+-- 4, which isn't read; so the array has no size
 unfoldable pub dimensioned_array : List ℕ → Result TypeData StreamError
 dimensioned_array bytes =
     if nat_lt (length bytes) 8 then Err CUT else
     Ok (type.Array (record { element_type = type_index 0 bytes; first = 0; rest = [] }))
 
--- what a record of a kind that has a name says: five kinds have nothing but the name
+-- the content of a record whose kind has a name; for five kinds it is empty
 abbrev pub data_of : TypeKind → List ℕ → Result TypeData StreamError
 data_of leaf.Modifier bytes = modifier bytes
 data_of leaf.Pointer bytes = pointer bytes
@@ -198,14 +198,14 @@ data_of leaf.VirtualFunctionTableShape bytes = Ok (type.Other (codes "VirtualFun
 data_of leaf.Alias bytes = alias bytes
 data_of leaf.DimensionedArray bytes = dimensioned_array bytes
 
--- what a record of a type says, by its kind and what stands after it
+-- the content of a type record, by its kind and the bytes after it
 unfoldable pub type_data : ℕ → List ℕ → Result TypeData Error
 type_data = content_by type_kind data_of
 
--- what records of types mean
+-- how records are read as types
 abbrev pub types : ItemMeaning TypeIndex TypeData
 types = record { index = λ number. record { 0 = number }; content = type_data; first = primitives }
 
--- the types of a stream, with the primitives in front of them
+-- the types of a stream, after the primitives
 abbrev pub types_of : List ℕ → Result (ItemInformation TypeIndex TypeData) StreamError
 types_of = stream_items types

@@ -4,7 +4,7 @@ use Rattle.pdb_records.specs.declared.error.StreamError.{StreamError}
 use Rattle.pdb_msf.specs.declared.faults.TheConstants.{CUT}
 use Rattle.pdb_msf.specs.Bytes.{text_in}
 
--- the name that these bytes begin with, which ends in a zero, and what stands after the zero
+-- the zero-terminated name at the start of these bytes, and the bytes after its zero
 abbrev pub name_in : List ℕ → Result (List ℕ × List ℕ) StreamError
 name_in bytes = elim (text_in bytes) as (λ name. Result (List ℕ × List ℕ) StreamError) [
   | None ↦ Err CUT

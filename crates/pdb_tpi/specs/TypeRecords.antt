@@ -1,4 +1,4 @@
--- Records of types and ids: how the bytes of a list are cut into them.
+-- Records of types and ids: how the bytes of a list are split into records.
 use Rattle.std.specs.Prelude.{◌≡◌, ℕ, ◌+◌, ◌-◌, ◌^◌, min, nat_lt, List, take, drop, length, map, slice_get}
 use Rattle.std.specs.Prelude.{Option, Some, None, Result, Ok, Err, if◌then◌else◌}
 use Rattle.pdb_records.specs.Readings.{Read}
@@ -8,25 +8,25 @@ use Rattle.pdb_msf.specs.Faults.{◌>>=◌}
 use Rattle.pdb_msf.specs.ItemLists.{all_items}
 use Rattle.pdb_msf.specs.NumberLists.{two_byte_number}
 
--- a record: its kind, which is the number of a leaf (LF_..), and what stands after the kind
+-- a record: its kind, which is the number of a leaf (LF_..), and the bytes after the kind
 pub record TypeBytes : Type 0 where
   pub kind : ℕ
   pub content : List ℕ
 
--- RecordLen, the number of two bytes that a record begins with: how many bytes of the record stand after it
+-- RecordLen, the two-byte number at the start of a record: the size of the rest of the record
 abbrev pub record_len : List ℕ → ℕ
 record_len bytes = two_byte_number bytes
 
--- what stands after RecordLen in the record that these bytes begin with
+-- the bytes after RecordLen in the first record
 abbrev pub behind_len : List ℕ → List ℕ
 behind_len bytes = take (record_len bytes) (drop 2 bytes)
 
--- the record that these bytes begin with: after RecordLen stand RecordKind, in two bytes, and its content
+-- the first record: after RecordLen come RecordKind, in two bytes, and its content
 abbrev pub first_record : List ℕ → TypeBytes
 first_record bytes = record { kind = two_byte_number (behind_len bytes); content = drop 2 (behind_len bytes) }
 
--- why these bytes begin with no record, if so: where they end before, it is cut; one that has no room for its kind has
--- a bad length
+-- the fault of the first record, if it has one: `CUT` if the bytes end early, and a bad length if there is no room for
+-- its kind
 abbrev pub record_fault : List ℕ → Option StreamError
 record_fault bytes =
     if nat_lt (length bytes) 2 then Some CUT else
@@ -34,12 +34,12 @@ record_fault bytes =
     if nat_lt (record_len bytes) 2 then Some BAD_LENGTH else
     None
 
--- the record that stands first, unless it has this fault, and what stands after it
+-- the first record and the bytes after it, or this fault
 abbrev pub unless_faulty : Option StreamError → List ℕ → Result (TypeBytes × List ℕ) StreamError
 unless_faulty (Some fault) bytes = Err fault
 unless_faulty None bytes = Ok (first_record bytes, drop (2 + record_len bytes) bytes)
 
--- the record that stands first, and what stands after it
+-- the first record, and the bytes after it
 abbrev pub next_record : List ℕ → Result (TypeBytes × List ℕ) StreamError
 next_record bytes = unless_faulty (record_fault bytes) bytes
 
@@ -47,17 +47,17 @@ next_record bytes = unless_faulty (record_fault bytes) bytes
 abbrev pub type_records : List ℕ → Read TypeBytes
 type_records bytes = all_items next_record bytes
 
--- where the record that stands next in a list of so many bytes starts, at most 2 ^ 32 - 1, and what stands after it
+-- the offset of the next record in a list of `whole` bytes, at most 2 ^ 32 - 1, and the bytes after the record
 abbrev pub next_start : ℕ → List ℕ → Result (ℕ × List ℕ) StreamError
 next_start whole bytes = do
   read ← next_record bytes
   Ok (min (whole - length bytes) (2 ^ 32 - 1), read.1)
 
--- the records that start at these places
+-- the records that start at these offsets
 abbrev pub records_at : List ℕ → List ℕ → List TypeBytes
 records_at starts bytes = map (λ start. first_record (drop start bytes)) starts
 
--- a record starts at each of these places
+-- a complete record starts at each of these offsets
 abbrev pub AreStarts : List ℕ → List ℕ → Type 0
 AreStarts starts bytes =
     (k start : ℕ) → slice_get starts k ≡ Some start → record_fault (drop start bytes) ≡ None

@@ -9,11 +9,11 @@ use Rattle.pdb_tpi.specs.declared.type_stream_header.TypeHeader.{TypeHeader}
 abbrev pub version : List ℕ → ℕ
 version stream = number stream
 
--- the version that is known, V80
+-- the supported version, V80
 abbrev pub version_80 : ℕ
 version_80 = 20040203
 
--- HeaderSize, at 4: how many bytes stand before the records
+-- HeaderSize, at 4: the number of bytes before the records
 abbrev pub header_size : List ℕ → ℕ
 header_size stream = number (drop 4 stream)
 
@@ -21,11 +21,11 @@ header_size stream = number (drop 4 stream)
 abbrev pub type_index_begin : List ℕ → ℕ
 type_index_begin stream = number (drop 8 stream)
 
--- TypeRecordBytes, at 16: how many bytes the records have together
+-- TypeRecordBytes, at 16: the size of all records in bytes
 abbrev pub type_record_bytes : List ℕ → ℕ
 type_record_bytes stream = number (drop 16 stream)
 
--- what is read of a header
+-- the fields of a header that are read
 abbrev pub header_fields : List ℕ → TypeHeader
 header_fields stream = record {
   header_size = header_size stream;
@@ -33,8 +33,8 @@ header_fields stream = record {
   type_record_bytes = type_record_bytes stream;
 }
 
--- the header that these bytes begin with, in a stream of this length: its version is the known one, and the stream has
--- HeaderSize bytes
+-- the header at the start of these bytes, in a stream of this length. Its version must be the supported one, and the
+-- stream must have HeaderSize bytes
 abbrev pub header_of : List ℕ → ℕ → Result TypeHeader StreamError
 header_of front stream_length =
     if nat_lt (length front) 20 then Err CUT else
@@ -42,6 +42,6 @@ header_of front stream_length =
     if nat_lt stream_length (header_size front) then Err POINTS_NOWHERE else
     Ok (header_fields front)
 
--- the header of a stream, of which 20 bytes are read
+-- the header of a stream; its first 20 bytes are read
 unfoldable pub type_header : List ℕ → Result TypeHeader StreamError
 type_header stream = header_of stream (length stream)

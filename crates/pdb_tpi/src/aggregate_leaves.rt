@@ -1,4 +1,4 @@
-//! Type records of classes, structs, interfaces, unions and enumerations, in both layouts, and of aliases.
+//! Reads type records of classes, structs, interfaces, unions and enumerations, in both layouts, and of aliases.
 
 ghost use Rattle.std.specs.Prelude.{◌≡◌, ◌≤◌, IfSome, option_and_then};
 ghost use Rattle.pdb_msf.specs.Faults.{Gives};
@@ -16,29 +16,29 @@ use pdb_records::{
 };
 use std::alloc::Global;
 
-/// The bit of a type's properties that says that it is only a forward reference.
+/// The property of a type that is only a forward reference.
 const FORWARD_REFERENCE: u16 = 0x80;
 
-/// The bit of a type's properties that says that a unique name stands after its name.
+/// The property of a type that has a unique name after its name.
 const UNIQUE_NAME: u16 = 0x200;
 
-/// Where a class or a union has its properties.
+/// The offset of the properties of a class or a union.
 const PROPERTIES: usize = 2;
 
-/// Where one of the newer layout has them.
+/// The offset of the properties in the newer layout.
 const NEWER_PROPERTIES: usize = 0;
 
-/// The bytes of a class in front of its size and its names.
+/// The size of a class before its size and names, in bytes.
 const CLASS_FRONT: usize = 16;
 
 const NEWER_CLASS_FRONT: usize = 18;
 
-/// Those of a union.
+/// The size of a union before its size and names, in bytes.
 const UNION_FRONT: usize = 8;
 
 const NEWER_UNION_FRONT: usize = 10;
 
-/// What stands after the indices of a class or a union.
+/// The fields after the indices of a class or a union.
 #[derive(Drop)]
 pub(crate) struct SizedNames {
     pub(crate) size: u64,
@@ -46,7 +46,7 @@ pub(crate) struct SizedNames {
     pub(crate) unique_name: Option<RawString>,
 }
 
-/// A class, a struct or an interface.
+/// Reads a class, a struct or an interface.
 #[tactic(auto, unfolding(crate::specs::AggregateLeaves::class))]
 pub(crate) fn class(alloc: Global, class_kind: ClassKind, bytes: &[u8]) -> Result<TypeData, Fault>
     ensures { Gives (λ read. read) result (class class_kind bytes.now) }
@@ -58,8 +58,8 @@ pub(crate) fn class(alloc: Global, class_kind: ClassKind, bytes: &[u8]) -> Resul
     Ok(class_by(class_kind, properties, named))
 }
 
-/// A class, a struct or an interface of the newer layout: the properties in four bytes, three indices, and how many
-/// members it has.
+/// Reads a class, a struct or an interface in the newer layout: properties of four bytes, three indices, and the number
+/// of members come first.
 #[tactic(auto, unfolding(crate::specs::AggregateLeaves::class2))]
 pub(crate) fn class2(alloc: Global, class_kind: ClassKind, bytes: &[u8]) -> Result<TypeData, Fault>
     ensures { Gives (λ read. read) result (class2 class_kind bytes.now) }
@@ -71,7 +71,7 @@ pub(crate) fn class2(alloc: Global, class_kind: ClassKind, bytes: &[u8]) -> Resu
     Ok(class_by(class_kind, properties, named))
 }
 
-// A class of these properties, with this size and these names.
+// A class with these properties, this size and these names.
 fn class_by(class_kind: ClassKind, properties: u16, named: SizedNames) -> TypeData
     ensures { result ≡ class_by class_kind properties named }
 {
@@ -84,7 +84,7 @@ fn class_by(class_kind: ClassKind, properties: u16, named: SizedNames) -> TypeDa
     })
 }
 
-/// A union.
+/// Reads a union.
 #[tactic(auto, unfolding(crate::specs::AggregateLeaves::union))]
 pub(crate) fn union(alloc: Global, bytes: &[u8]) -> Result<TypeData, Fault>
     ensures { Gives (λ read. read) result (union bytes.now) }
@@ -96,7 +96,7 @@ pub(crate) fn union(alloc: Global, bytes: &[u8]) -> Result<TypeData, Fault>
     Ok(union_by(properties, named))
 }
 
-/// A union of the newer layout: the properties in four bytes, an index, and how many members it has.
+/// Reads a union in the newer layout: properties of four bytes, an index, and the number of members come first.
 #[tactic(auto, unfolding(crate::specs::AggregateLeaves::newer_union))]
 pub(crate) fn newer_union(alloc: Global, bytes: &[u8]) -> Result<TypeData, Fault>
     ensures { Gives (λ read. read) result (newer_union bytes.now) }
@@ -108,7 +108,7 @@ pub(crate) fn newer_union(alloc: Global, bytes: &[u8]) -> Result<TypeData, Fault
     Ok(union_by(properties, named))
 }
 
-// A union of these properties, with this size and these names.
+// A union with these properties, this size and these names.
 fn union_by(properties: u16, named: SizedNames) -> TypeData
     ensures { result ≡ union_by properties named }
 {
@@ -120,7 +120,7 @@ fn union_by(properties: u16, named: SizedNames) -> TypeData
     })
 }
 
-/// Whether a record of this kind with this content is of a class or a union, and no forward reference to one.
+/// Whether a record of this kind with this content is a class or a union, and not only a forward reference to one.
 pub(crate) fn is_definition(kind: u16, content: &[u8]) -> bool
     ensures { result ≡ is_definition kind content.now }
 {
@@ -132,7 +132,7 @@ pub(crate) fn is_definition(kind: u16, content: &[u8]) -> bool
     }
 }
 
-// Where the properties stand in the record of a class or a union of this kind.
+// The offset of the properties in a class or a union of this kind.
 fn properties_place(kind: u16) -> Option<usize>
     ensures answer { result ≡ option_and_then properties_place (type_kind kind) }
     ensures least { IfSome result (λ place. place ≤ 2) }
@@ -144,7 +144,7 @@ fn properties_place(kind: u16) -> Option<usize>
     }
 }
 
-// The size and the names of a class or a union of these properties.
+// Reads the size and the names of a class or a union with these properties.
 #[tactic(auto, unfolding(crate::specs::AggregateLeaves::sized_names))]
 fn take_names(alloc: Global, properties: u16, rest: &mut Bytes<'_>) -> Result<SizedNames, Fault>
     ensures { Gives (λ named. named) result (sized_names properties rest.old) }
@@ -159,7 +159,7 @@ fn take_names(alloc: Global, properties: u16, rest: &mut Bytes<'_>) -> Result<Si
     })
 }
 
-// The next name, where these properties say that it is there.
+// Reads the unique name, if the properties say that there is one.
 fn take_unique_name(
     alloc: Global,
     properties: u16,
@@ -173,7 +173,7 @@ fn take_unique_name(
     Ok(Some(take_name(alloc, rest)?))
 }
 
-/// An enumeration.
+/// Reads an enumeration.
 #[tactic(auto, unfolding(crate::specs::AggregateLeaves::enumeration))]
 pub(crate) fn enumeration(alloc: Global, bytes: &[u8]) -> Result<TypeData, Fault>
     ensures { Gives (λ read. read) result (enumeration bytes.now) }
@@ -187,7 +187,7 @@ pub(crate) fn enumeration(alloc: Global, bytes: &[u8]) -> Result<TypeData, Fault
     }))
 }
 
-/// Another name of a type, as an enumeration of that name: it has the size of the type.
+/// Reads an alias. It is represented by an enumeration of that name with the type underneath, whose size it has.
 #[tactic(auto, unfolding(crate::specs::AggregateLeaves::alias))]
 pub(crate) fn alias(alloc: Global, bytes: &[u8]) -> Result<TypeData, Fault>
     ensures { Gives (λ read. read) result (alias bytes.now) }
@@ -201,7 +201,7 @@ pub(crate) fn alias(alloc: Global, bytes: &[u8]) -> Result<TypeData, Fault>
     }))
 }
 
-/// One value of an enumeration.
+/// Reads one value of an enumeration.
 #[tactic(auto, unfolding(crate::specs::AggregateLeaves::enumerate))]
 pub(crate) fn enumerate(alloc: Global, bytes: &[u8]) -> Result<TypeData, Fault>
     ensures { Gives (λ read. read) result (enumerate bytes.now) }

@@ -1,4 +1,4 @@
-//! What items hold, or why one alone can't be read.
+//! Results of reading one item: its content, or why only this item can't be read.
 
 ghost use Rattle.std.specs.Prelude.{◌≡◌};
 ghost use Rattle.pdb_tpi.specs.Contents.{content_of};
@@ -7,7 +7,7 @@ use pdb_msf::faults::Fault;
 use pdb_records::Error;
 use std::alloc::AllocError;
 
-/// The content of an item, or why it alone has none.
+/// Turns a fault in one item's bytes into the item's error, and passes on that memory ran out.
 pub(crate) fn content_of<T>(outcome: Result<T, Fault>) -> Result<Result<T, Error>, AllocError>
     ensures { result ≡ content_of outcome }
 {

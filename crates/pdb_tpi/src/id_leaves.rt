@@ -1,4 +1,4 @@
-//! Ids: functions, methods and strings that symbols name by an id.
+//! Reads the records of ids: functions, methods and strings.
 
 ghost use Rattle.std.specs.Prelude.{◌≡◌, IfErr, IfOk};
 ghost use Rattle.pdb_msf.specs.Faults.{Gives};
@@ -18,7 +18,7 @@ use pdb_records::{
 };
 use std::alloc::{AllocError, Global};
 
-/// The kinds of ids that have a name in the records.
+/// The kinds of ids that are known.
 #[derive(Clone, Copy)]
 pub(crate) enum IdKind {
     Function,
@@ -29,7 +29,7 @@ pub(crate) enum IdKind {
     UserDefinedTypeSource,
 }
 
-/// A list without ids.
+/// An empty list of ids.
 pub fn no_ids(alloc: Global) -> IdInformation
     ensures { result ≡ no_ids }
 {
@@ -66,7 +66,7 @@ impl ItemIndex for IdIndex {
     }
 }
 
-// The kind of id that a number is, if it is one that is read.
+// The kind of id with this number, if it is known.
 fn id_kind(number: u16) -> Option<IdKind>
     ensures { result ≡ id_kind number }
 {
@@ -81,7 +81,7 @@ fn id_kind(number: u16) -> Option<IdKind>
     }
 }
 
-// What a record of this kind says.
+// Reads the content of an id of this kind.
 fn id_data(alloc: Global, kind: IdKind, bytes: &[u8]) -> Result<IdData, Fault>
     ensures { Gives (λ read. read) result (data_of kind bytes.now) }
 {
@@ -95,7 +95,7 @@ fn id_data(alloc: Global, kind: IdKind, bytes: &[u8]) -> Result<IdData, Fault>
     }
 }
 
-// An id of which the name of its kind is all that is read.
+// An id whose content isn't read, only the name of its kind.
 fn unhandled(alloc: Global, kind_name: &str) -> Result<IdData, Fault>
     ensures answer { IfOk result (λ read. read ≡ id.Other kind_name.now) }
     ensures memory { IfErr result (λ fault. fault ≡ Fault.OutOfMemory) }
@@ -104,7 +104,7 @@ fn unhandled(alloc: Global, kind_name: &str) -> Result<IdData, Fault>
     Ok(IdData::Other(UnhandledId { kind_name }))
 }
 
-// The index, where it names a scope.
+// The index of a scope; `None` if it is 0.
 fn optional_scope(index: u32) -> Option<IdIndex>
     ensures { result ≡ optional_scope index }
 {

@@ -1,4 +1,4 @@
-//! Lists of indices, with how many there are in front of them.
+//! Reads lists of indices that follow their count.
 
 ghost use Rattle.pdb_msf.specs.Faults.{Gives};
 ghost use Rattle.pdb_tpi.specs.IndexLists.{index_list};
@@ -8,7 +8,7 @@ use pdb_msf::{Bytes, ItemReader, read_all_items};
 use pdb_records::TypeIndex;
 use std::alloc::Global;
 
-/// A list of indices, with how many there are in front of it.
+/// Reads a list of indices that follow their count.
 #[tactic(auto, unfolding(crate::specs::IndexLists::index_list))]
 pub(crate) fn read_indices(alloc: Global, bytes: &[u8]) -> Result<Vec<TypeIndex>, Fault>
     ensures { Gives (λ list. list.items) result (index_list bytes.now) }
@@ -18,7 +18,7 @@ pub(crate) fn read_indices(alloc: Global, bytes: &[u8]) -> Result<Vec<TypeIndex>
     read_all_items(alloc, &Indices, rest.take(4 * count)?)
 }
 
-/// Indices, one after the other.
+/// Reads indices in turn.
 struct Indices;
 
 impl<'a> ItemReader<'a> for Indices {

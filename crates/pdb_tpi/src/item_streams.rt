@@ -1,4 +1,4 @@
-//! What a stream lists: types, or ids.
+//! `ItemIndex`: whether the records of a stream are read as types or as ids.
 
 ghost use Rattle.std.specs.Prelude.{◌≡◌, IfOk};
 ghost use Rattle.pdb_tpi.specs.ItemStreams.{ItemMeaning};
@@ -6,19 +6,19 @@ ghost use Rattle.pdb_tpi.specs.ItemStreams.{ItemMeaning};
 use pdb_records::{Error, Item};
 use std::alloc::{AllocError, Global};
 
-/// The index of an item of a list: of a type, or of an id. It says which of both a list is read as.
+/// The index of a type or of an id. It decides as which of both the records of a stream are read.
 pub trait ItemIndex: Drop {
-    /// What an item says.
+    /// The content of an item.
     type Data: Drop;
 
-    /// What the records of such a list mean.
+    /// The meaning of the records of such a list.
     ghost meaning: { ItemMeaning Self Self.Data };
 
-    /// The index of this number.
+    /// The index with this number.
     fn of_number(number: u32) -> Self
         ensures { result ≡ meaning.index number };
 
-    /// What a record says, by its kind and what stands after it, or why it can't be read.
+    /// Reads the content of a record, by its kind and the bytes after it, or says why it can't be read.
     fn content(
         alloc: Global,
         kind: u16,
@@ -26,7 +26,7 @@ pub trait ItemIndex: Drop {
     ) -> Result<Result<Self::Data, Error>, AllocError>
         ensures { IfOk result (λ content. content ≡ meaning.content kind bytes.now) };
 
-    /// The items that every list has in front of those of a stream.
+    /// The items with which every list begins, before those of the stream.
     fn first_items(alloc: Global) -> Result<Vec<Item<Self, Self::Data>>, AllocError>
         ensures { IfOk result (λ items. items.items ≡ meaning.first) };
 }

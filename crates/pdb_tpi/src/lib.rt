@@ -1,6 +1,6 @@
-//! The types and the ids of a PDB file (TPI and IPI): the records of a stream of either, and what each of them says.
+//! Reads the types and the ids of a PDB file (TPI and IPI): the records of each stream, and the content of each record.
 //!
-//! What each of their bytes means is defined in `specs/`, and each call answers that, or that there was no memory.
+//! The meaning of their bytes is defined in `specs/`. Each call returns this meaning, or that memory ran out.
 #![tactic(auto)]
 
 mod aggregate_leaves;

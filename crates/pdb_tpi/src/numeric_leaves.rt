@@ -1,4 +1,4 @@
-//! Numeric leaves: numbers in as many bytes as their kind says.
+//! Reads numeric leaves: numbers whose first two bytes are the value, or a kind that says its width.
 
 ghost use Rattle.std.specs.Prelude.{◌≡◌, ◌≤◌, ◌<◌, drop, length, Ok, Err, IfErr, IfOk, MatchResult, OnErr, OnOk};
 ghost use Rattle.pdb_msf.specs.declared.faults.TheConstants.{CUT};
@@ -9,10 +9,10 @@ use pdb_msf::Bytes;
 use pdb_msf::faults::BAD_NUMBER;
 use pdb_records::{StreamError, Variant};
 
-/// Numbers below this one stand for themselves; others say how wide the number after them is.
+/// Numbers below this one are values. Others are kinds, which say the width of the value after them.
 const LF_NUMERIC: u16 = 0x8000;
 
-/// The next number of a record, which says its own width.
+/// Reads the next numeric leaf of a record.
 #[tactic(auto, unfolding(crate::specs::NumericLeaves::numeric_leaf))]
 pub(crate) fn take_variant(rest: &mut Bytes<'_>) -> Result<Variant, StreamError>
     ensures { MatchResult result (λ number. numeric_leaf rest.old ≡ Ok (number, rest.new))
@@ -25,7 +25,7 @@ pub(crate) fn take_variant(rest: &mut Bytes<'_>) -> Result<Variant, StreamError>
     take_wide(leaf, rest)
 }
 
-// The next number, which is of this leaf.
+// Reads the next number, whose kind is `leaf`.
 fn take_wide(leaf: u16, rest: &mut Bytes<'_>) -> Result<Variant, StreamError>
     ensures { MatchResult result (λ number. wide_number leaf rest.old ≡ Ok (number, rest.new))
         (λ error. wide_number leaf rest.old ≡ Err error) }
@@ -42,7 +42,7 @@ fn take_wide(leaf: u16, rest: &mut Bytes<'_>) -> Result<Variant, StreamError>
     }
 }
 
-// The next number of eight bytes.
+// Reads the next eight-byte number.
 fn take_u64(rest: &mut Bytes<'_>) -> Result<u64, StreamError>
     ensures answer { IfOk result (λ read. read ≡ eight_byte_number rest.old) }
     ensures there { OnOk result (8 ≤ length rest.old) }
@@ -54,7 +54,7 @@ fn take_u64(rest: &mut Bytes<'_>) -> Result<u64, StreamError>
     Ok(LittleEndian::read_u64(taken))
 }
 
-/// The next number of a record, which is a size.
+/// Reads the next numeric leaf of a record as a size.
 #[tactic(auto, unfolding(crate::specs::NumericLeaves::size_in))]
 pub(crate) fn take_size(rest: &mut Bytes<'_>) -> Result<u64, StreamError>
     ensures { MatchResult result (λ size. size_in rest.old ≡ Ok (size, rest.new))
@@ -64,7 +64,7 @@ pub(crate) fn take_size(rest: &mut Bytes<'_>) -> Result<u64, StreamError>
     size_of(number)
 }
 
-// The number as a size, which is none below zero.
+// The number as a size. A negative number is refused.
 fn size_of(number: Variant) -> Result<u64, StreamError>
     ensures { result ≡ size_of number }
 {

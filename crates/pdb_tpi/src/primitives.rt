@@ -1,4 +1,4 @@
-//! The types that every program has without a record, with their kinds of pointers.
+//! The primitive types, which every program has without a record, and the pointers to them.
 
 ghost use Rattle.std.specs.Prelude.{◌≡◌, ◌++◌, IfOk, OnOk};
 ghost use Rattle.pdb_tpi.specs.Primitives.{null_pointer_type, primitive, primitives, primitives_in, type_of_index};
@@ -8,7 +8,7 @@ use pdb_records::{
 };
 use std::alloc::{AllocError, Global};
 
-/// The types that the compiler brings, by their numbers.
+/// The primitive types by their numbers.
 static PRIMITIVES: [(u8, PrimitiveKind); 43] = [
     (0x00, PrimitiveKind::NoType),
     (0x03, PrimitiveKind::Void),
@@ -55,7 +55,7 @@ static PRIMITIVES: [(u8, PrimitiveKind); 43] = [
     (0x7c, PrimitiveKind::Char8),
 ];
 
-/// How many ways there are to point to a primitive, of which the first is not to.
+/// The number of pointer modes of a primitive type. The first mode is no pointer.
 const MODES: u8 = 8;
 
 /// The index that compilers write for `std::nullptr_t`.
@@ -64,7 +64,7 @@ const NULL_POINTER: u32 = 0x0103;
 /// The index of a pointer to void.
 const VOID_POINTER: u32 = 0x0603;
 
-/// All primitives, each with its seven kinds of pointers, under the indices that stand for them everywhere.
+/// All primitive types, each with its seven kinds of pointers, under their fixed indices.
 pub fn primitive_types(alloc: Global) -> Result<Vec<Item<TypeIndex, TypeData>>, AllocError>
     ensures { IfOk result (λ items. items.items ≡ primitives) }
 {
@@ -75,7 +75,7 @@ pub fn primitive_types(alloc: Global) -> Result<Vec<Item<TypeIndex, TypeData>>, 
     Ok(items)
 }
 
-// Appends these primitives in one mode.
+// Appends these primitive types in one pointer mode.
 fn push_primitives(
     alloc: Global,
     kinds: &[(u8, PrimitiveKind)],
@@ -90,7 +90,7 @@ fn push_primitives(
     Ok(())
 }
 
-// The primitive with this number, in one mode.
+// The primitive type with this number, in one pointer mode.
 fn primitive(
     alloc: Global,
     mode: u8,
@@ -106,7 +106,7 @@ fn primitive(
     })
 }
 
-// The type of an index that stands for a primitive of this kind, in one mode.
+// The type with a fixed index, for a primitive of this kind in one pointer mode.
 fn type_of_index(
     alloc: Global,
     index: u32,
@@ -124,7 +124,7 @@ fn type_of_index(
     }))
 }
 
-// The type `std::nullptr_t`, as an enumeration of that name: it has the size of a pointer.
+// The type `std::nullptr_t`. It is represented by an enumeration of that name, with the size of a pointer.
 fn null_pointer_type(alloc: Global) -> Result<TypeData, AllocError>
     ensures { IfOk result (λ read. read ≡ null_pointer_type) }
 {

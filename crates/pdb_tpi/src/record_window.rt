@@ -1,4 +1,4 @@
-//! Bytes of the records of a stream that is read range by range: some of them at a time.
+//! `RecordWindow`: a buffer for some bytes of a stream's records at a time.
 
 ghost use Rattle.std.specs.Prelude.{◌≡◌, ◌≤◌, ◌+◌, List, ℕ, drop, length, take, true, IfErr, IfSome, OnErr, OnOk, []};
 ghost use Rattle.pdb_msf.specs.StreamBlocks.{said_in};
@@ -8,13 +8,13 @@ ghost use Rattle.pdb_tpi.specs.TypeRecords.{record_len};
 use pdb_msf::{Bytes, Source, SourceError, StreamBlocks, bytes_from};
 use std::alloc::Global;
 
-/// How many bytes are read at once where records are read one after the other: so many stay in a processor's cache.
+/// How many bytes are read at once if records are read in turn. This many fit a processor's cache.
 const MANY: usize = 131_072;
 
-/// How many bytes are read at once where single records are read.
+/// How many bytes are read at once if single records are read.
 const FEW: usize = 4096;
 
-/// Where the records stand in a stream that is read range by range.
+/// The range of a stream in which its records are.
 #[derive(Drop)]
 pub struct RecordRange {
     pub(crate) blocks: StreamBlocks,
@@ -22,18 +22,18 @@ pub struct RecordRange {
     pub(crate) length: u32,
 }
 
-/// Some bytes of the records of a stream, in memory.
+/// A buffer for some bytes of a stream's records.
 #[derive(Drop)]
 pub struct RecordWindow {
     bytes: Vec<u8>,
-    /// Where they begin, in bytes from the first record.
+    /// The offset of the first byte, from the start of the first record.
     from: usize,
-    /// How many are read at once.
+    /// How many bytes are read at once.
     step: usize,
 }
 
 impl RecordWindow {
-    /// A window without any bytes, for single records.
+    /// An empty window for single records.
     pub fn of_few(alloc: Global) -> Self
         ensures { (records : List ℕ) → Shows records result }
     {
@@ -44,7 +44,7 @@ impl RecordWindow {
         }
     }
 
-    /// A window without any bytes, for records one after the other.
+    /// An empty window for records in turn.
     pub fn of_many(alloc: Global) -> Self
         ensures { (records : List ℕ) → Shows records result }
     {
@@ -55,7 +55,7 @@ impl RecordWindow {
         }
     }
 
-    /// The bytes from a place on.
+    /// The bytes from an offset of the records on; empty if the window doesn't have that offset.
     pub(crate) fn at(&self, place: usize) -> &[u8]
         ensures { result.now ≡ shown_at self.now place }
     {
@@ -65,7 +65,7 @@ impl RecordWindow {
         bytes_from(&self.bytes, place - self.from)
     }
 
-    /// Has the window begin with the record at a place, or have it inside of it, as far as there is one.
+    /// Makes sure that the window has the whole record at an offset, if there is one.
     pub(crate) fn show<S: Source>(
         &mut self,
         source: &mut S,
@@ -93,7 +93,7 @@ impl RecordWindow {
         Ok(())
     }
 
-    // Whether the window has the whole record at a place.
+    // Whether the window has the whole record at an offset.
     fn has_whole(&self, place: usize) -> bool
         ensures there { result ≡ true → 2 ≤ length (shown_at self.now place) }
         ensures whole { result ≡ true
@@ -103,7 +103,7 @@ impl RecordWindow {
         record_size(bytes) <= bytes.len()
     }
 
-    // Reads the records from a place on, so many bytes, or as many as are left.
+    // Reads `count` bytes of the records from an offset on, or as many as are left.
     fn load<S: Source>(
         &mut self,
         source: &mut S,
@@ -136,7 +136,7 @@ impl RecordWindow {
     }
 }
 
-// How many bytes the record has that these begin with, by its first two.
+// The size of the record at the start of these bytes, by its first two bytes.
 fn record_size(bytes: &[u8]) -> usize
     ensures answer { 2 ≤ length bytes.now → result ≡ 2 + record_len bytes.now }
     ensures least { 2 ≤ result }

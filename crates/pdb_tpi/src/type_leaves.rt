@@ -1,4 +1,4 @@
-//! Types: pointers, modifiers, procedures, methods, arrays, lists of arguments, and what is not printed.
+//! Reads the records of types: pointers, modifiers, procedures, methods, arrays, argument lists, and unprinted kinds.
 
 ghost use Rattle.std.specs.Prelude.{◌≡◌, ◌≤◌, ◌+◌, length, IfErr, IfOk};
 ghost use Rattle.pdb_msf.specs.Faults.{Gives};
@@ -22,10 +22,10 @@ use pdb_records::{
 };
 use std::alloc::{AllocError, Global};
 
-/// The bit of a function's flags that says that it is a constructor.
+/// The flag of a function that is a constructor.
 const CONSTRUCTOR: u8 = 2;
 
-/// The kinds of types that have a name in the records.
+/// The kinds of types that are known.
 #[derive(Clone, Copy)]
 pub(crate) enum TypeKind {
     Modifier,
@@ -38,18 +38,18 @@ pub(crate) enum TypeKind {
     Class(ClassKind),
     Union,
     Enumeration,
-    /// A class of the newer layout.
+    /// A class in the newer layout.
     NewerClass(ClassKind),
-    /// A union of the newer layout.
+    /// A union in the newer layout.
     NewerUnion,
     FieldList,
     Bitfield,
     MethodList,
     VirtualFunctionTable,
     VirtualFunctionTableShape,
-    /// Another name of a type.
+    /// An alias of a type.
     Alias,
-    /// An array whose dimensions another record has.
+    /// An array whose dimensions are in another record.
     DimensionedArray,
 }
 
@@ -81,7 +81,7 @@ impl ItemIndex for TypeIndex {
     }
 }
 
-/// The kind of type that a number is, if it is one that is read.
+/// The kind of type with this number, if it is known.
 pub(crate) fn type_kind(number: u16) -> Option<TypeKind>
     ensures { result ≡ type_kind number }
 {
@@ -113,7 +113,7 @@ pub(crate) fn type_kind(number: u16) -> Option<TypeKind>
     }
 }
 
-// What a record of this kind says.
+// Reads the content of a type of this kind.
 fn type_data(alloc: Global, kind: TypeKind, bytes: &[u8]) -> Result<TypeData, Fault>
     ensures { Gives (λ read. read) result (data_of kind bytes.now) }
 {
@@ -140,7 +140,7 @@ fn type_data(alloc: Global, kind: TypeKind, bytes: &[u8]) -> Result<TypeData, Fa
     }
 }
 
-// A type of which the name of its kind is all that is read.
+// A type whose content isn't read, only the name of its kind.
 fn unhandled(alloc: Global, kind_name: &str) -> Result<TypeData, Fault>
     ensures answer { IfOk result (λ read. read ≡ type.Other kind_name.now) }
     ensures memory { IfErr result (λ fault. fault ≡ Fault.OutOfMemory) }
@@ -191,7 +191,7 @@ fn pointer_mode(attributes: u32) -> Result<PointerMode, StreamError>
     }
 }
 
-// The size that the attributes say, else that of the kind of pointer.
+// The size of a pointer in bytes: the one in its attributes or, if that is 0, the one of its kind.
 fn pointer_size(attributes: u32) -> u8
     ensures { result ≡ pointer_size attributes }
 {
@@ -203,7 +203,7 @@ fn pointer_size(attributes: u32) -> u8
     }
 }
 
-// The index, where it names a type.
+// The index of a type; `None` if it is 0.
 fn optional_type(index: u32) -> Option<TypeIndex>
     ensures { result ≡ optional_type index }
 {
@@ -214,7 +214,7 @@ fn optional_type(index: u32) -> Option<TypeIndex>
     }
 }
 
-// Whether the flags at a place of a function's record say that it is a constructor.
+// Whether the flags at an offset of a function's record say that it is a constructor.
 fn is_constructor(bytes: &[u8], place: usize) -> bool
     requires { place + 1 ≤ length bytes.now }
     ensures { result ≡ is_constructor place bytes.now }
@@ -276,7 +276,7 @@ fn array(alloc: Global, bytes: &[u8]) -> Result<TypeData, Fault>
     }))
 }
 
-// An array whose size isn't known, since the record of its dimensions isn't looked at.
+// An array of unknown size, because the record of its dimensions isn't read.
 #[tactic(auto, unfolding(crate::specs::TypeLeaves::dimensioned_array))]
 fn dimensioned_array(alloc: Global, bytes: &[u8]) -> Result<TypeData, Fault>
     ensures { Gives (λ read. read) result (dimensioned_array bytes.now) }

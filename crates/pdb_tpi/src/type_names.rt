@@ -1,4 +1,4 @@
-//! Names in the records of types and ids.
+//! Reads names in the records of types and ids.
 
 ghost use Rattle.pdb_msf.specs.Faults.{Gives};
 ghost use Rattle.pdb_tpi.specs.TypeNames.{name_in};
@@ -8,7 +8,7 @@ use pdb_msf::{Bytes, copy_name};
 use pdb_records::RawString;
 use std::alloc::Global;
 
-/// A copy of the next name.
+/// Reads and copies the next name.
 pub(crate) fn take_name(alloc: Global, rest: &mut Bytes<'_>) -> Result<RawString, Fault>
     ensures { Gives (λ name. (name, rest.new)) result (name_in rest.old) }
 {

@@ -1,4 +1,4 @@
-//! A stream of types or of ids that is read range by range: where each of its records starts.
+//! `TypePlaces`: where each record of a stream of types or ids starts.
 
 ghost use Rattle.std.specs.Prelude.{◌≡◌, ◌≤◌, length, slice_get, IfErr, IfOk, IfSome, OnOk};
 ghost use Rattle.pdb_msf.specs.ItemLists.{all_items};
@@ -19,22 +19,23 @@ use pdb_msf::{Bytes, Source, SourceError, StreamBlocks, offset_of};
 use pdb_records::{Item, ItemInformation, Reading, StreamError};
 use std::alloc::Global;
 
-/// Where the records of a stream of types or of ids start. Their bytes stay in the file: they are read from it again,
-/// through a window, when a record is asked for.
+/// Where the records of a stream of types or ids start. Their bytes stay in the file. Each call that needs a record
+/// reads its bytes again, through a window.
 #[derive(Drop)]
 pub struct TypePlaces {
     records: RecordRange,
     first: u32,
-    /// Where the records start, in bytes from the first one, and why they end early, if they do.
+    /// The offset of each record from the first one, and why the records end early, if they do.
     starts: Reading<u32>,
 }
 
 impl TypePlaces {
-    /// The list of types or ids that the stream in these blocks is.
+    /// Finds the records of types or ids in the stream with these blocks.
     ///
-    /// Broken by [`CUT`](pdb_msf::faults::CUT) where the stream ends in the header, by
-    /// [`UNKNOWN_VERSION`](pdb_msf::faults::UNKNOWN_VERSION) where its version isn't 20040203, and by
-    /// [`POINTS_NOWHERE`](pdb_msf::faults::POINTS_NOWHERE) where it is shorter than the header says that this is.
+    /// The inner error is [`CUT`](pdb_msf::faults::CUT) if the stream ends in the header,
+    /// [`UNKNOWN_VERSION`](pdb_msf::faults::UNKNOWN_VERSION) if its version isn't 20040203, and
+    /// [`POINTS_NOWHERE`](pdb_msf::faults::POINTS_NOWHERE) if the stream is shorter than the size of the header that it
+    /// gives.
     pub fn read<S: Source>(
         alloc: Global,
         source: &mut S,
@@ -68,7 +69,7 @@ impl TypePlaces {
         }))
     }
 
-    /// How many records there are.
+    /// The number of records.
     pub fn len(&self) -> usize
         ensures { result ≡ length self.now.starts.items }
     {
@@ -82,15 +83,15 @@ impl TypePlaces {
         self.first
     }
 
-    /// Why the records end early, if they do: the bytes end in one, or its length has no room for its kind.
+    /// Why the records end early, if they do: the last one is cut off, or is too short for its kind.
     pub fn fault(&self) -> Option<StreamError>
         ensures { result ≡ self.now.starts.fault }
     {
         self.starts.fault
     }
 
-    /// Whether the record at a position is of a class or a union, and no forward reference to one. Nothing is copied of
-    /// it but into the window.
+    /// Whether the record at a position is a class or a union, and not only a forward reference to one. The record is
+    /// only read into the window.
     pub fn is_definition<S: Source>(
         &self,
         source: &mut S,
@@ -115,7 +116,7 @@ impl TypePlaces {
         }
     }
 
-    /// All items, with those that every list has in front of them.
+    /// Reads all items. Before them come the items with which every list begins.
     pub fn all_items<I: ItemIndex, S: Source>(
         &self,
         alloc: Global,
@@ -144,8 +145,8 @@ impl TypePlaces {
         })
     }
 
-    /// The item that the record at a position is, or `None` after the last one. A record that can't be read is an item
-    /// with an error.
+    /// Reads the item at a position; `None` after the last one. A record that can't be read becomes an item with an
+    /// error.
     pub fn item_at<I: ItemIndex, S: Source>(
         &self,
         alloc: Global,
@@ -182,7 +183,7 @@ impl TypePlaces {
         self.first.saturating_add(position)
     }
 
-    // Has a window show the record at a position, if there is one.
+    // Reads the record at a position into a window, if there is one.
     fn show<S: Source>(
         &self,
         source: &mut S,
@@ -207,14 +208,14 @@ impl TypePlaces {
         }
     }
 
-    // Where the record at a position starts.
+    // The offset of the record at a position.
     fn start_of(&self, position: usize) -> Option<u32>
         ensures { result ≡ slice_get self.now.starts.items position }
     {
         self.starts.items.get(position).copied()
     }
 
-    // The record at a position, as a window shows it.
+    // The record at a position, from the window's bytes.
     fn shown<'w>(&self, window: &'w RecordWindow, position: usize) -> Option<TypeRecord<'w>>
         ensures { result ≡ position_shown self.now window.now position }
     {
@@ -223,7 +224,7 @@ impl TypePlaces {
     }
 }
 
-/// All items of the stream in these blocks. The errors are those of [`TypePlaces::read`].
+/// Reads all items of the stream in these blocks. The errors are those of [`TypePlaces::read`].
 pub fn read_items<I: ItemIndex, S: Source>(
     alloc: Global,
     source: &mut S,
@@ -240,7 +241,7 @@ pub fn read_items<I: ItemIndex, S: Source>(
     }
 }
 
-// The header of the stream in these blocks.
+// Reads the header of the stream in these blocks.
 fn read_front<S: Source>(
     alloc: Global,
     source: &mut S,
@@ -258,7 +259,7 @@ fn read_front<S: Source>(
     Ok(header_of(&front, blocks.len()))
 }
 
-// Where the records start, in bytes from the first one.
+// Finds the offset of each record from the first one.
 fn read_starts<S: Source>(
     alloc: Global,
     source: &mut S,
@@ -302,7 +303,7 @@ fn read_starts<S: Source>(
     })
 }
 
-// Why so many bytes end early, of which so many are there.
+// The fault if there are fewer bytes than wanted.
 fn early_end(there: usize, wanted: usize) -> Option<StreamError>
     ensures { result ≡ early_end there wanted }
 {

@@ -1,4 +1,4 @@
-//! Records of types and ids: how the bytes of a list are cut into them.
+//! Splits the bytes of a list into records of types or ids.
 
 ghost use Rattle.std.specs.Prelude.{◌≡◌, ◌+◌, ◌≤◌, drop, length, None, Some, IfErr, IfOk, OnOk};
 ghost use Rattle.pdb_tpi.specs.TypeRecords.{first_record, record_fault, record_len};
@@ -8,11 +8,11 @@ use pdb_msf::faults::BAD_LENGTH;
 use pdb_records::StreamError;
 use std::marker::Model;
 
-/// The bytes of a type or an id.
+/// The bytes of a type record or an id record.
 #[derive(Drop)]
 pub(crate) struct TypeRecord<'a> {
     pub(crate) kind: u16,
-    /// What stands after the kind.
+    /// The bytes after the kind.
     pub(crate) content: &'a [u8],
 }
 
@@ -24,7 +24,7 @@ impl<'a> Model for TypeRecord<'a> {
     ghost view = { λ r. record { kind = r.kind; content = r.content.now } };
 }
 
-/// The next record of a list.
+/// Reads the next record of a list.
 pub(crate) fn take_record<'a>(rest: &mut Bytes<'a>) -> Result<TypeRecord<'a>, StreamError>
     ensures answer { IfOk result (λ taken. taken ≡ first_record rest.old) }
     ensures there { OnOk result (record_fault rest.old ≡ None) }

@@ -1,4 +1,4 @@
-//! The header of a stream of types or of ids, and where it has the records after it.
+//! Reads the header of a stream of types or ids.
 
 ghost use Rattle.std.specs.Prelude.{◌≡◌};
 ghost use Rattle.pdb_tpi.specs.TypeStreamHeader.{header_of};
@@ -7,24 +7,25 @@ use pdb_msf::faults::{CUT, POINTS_NOWHERE, UNKNOWN_VERSION};
 use pdb_msf::u32_at;
 use pdb_records::StreamError;
 
-/// The bytes of the header that are looked at.
+/// The size of the part of the header that is read, in bytes.
 pub(crate) const HEADER: usize = 20;
 
-/// The version of a list of types or ids that is known.
+/// The only known version of a stream of types or ids.
 const VERSION: u32 = 20_040_203;
 
-/// What the header of a stream of types or of ids says of the records after it.
+/// The fields of the header that say where the records are.
 #[derive(Clone, Copy)]
 pub(crate) struct TypeHeader {
-    /// Where they begin, in bytes.
+    /// The size of the header: the offset of the first record.
     pub(crate) header_size: u32,
-    /// The index of the first one.
+    /// The index of the first record.
     pub(crate) type_index_begin: u32,
-    /// How many bytes they have together.
+    /// The size of all records together, in bytes.
     pub(crate) type_record_bytes: u32,
 }
 
-/// The header of a stream of this length, of which the first bytes are given, up to those of the header at least.
+/// Decodes the header of a stream of this length. `front` has at least the first `HEADER` bytes, unless the stream is
+/// shorter.
 pub(crate) fn header_of(front: &[u8], length: usize) -> Result<TypeHeader, StreamError>
     ensures { result ≡ header_of front.now length }
 {

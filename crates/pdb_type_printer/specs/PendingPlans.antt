@@ -1,4 +1,4 @@
--- What is still to be done, as plans, and what printing comes to from there.
+-- The remaining steps of printing as plans, and the run to which they lead.
 use Rattle.std.specs.Prelude.{◌≡◌, ℕ, suc, ◌+◌, ◌≤◌, false, List, [], ◌∷◌, reverse, Option, Some, None, Ok}
 use Rattle.pdb_records.specs.declared.types.TypeData.{TypeData}
 use Rattle.pdb_types.specs.declared.read_error.ReadError.{ReadError}
@@ -17,18 +17,18 @@ use Rattle.pdb_type_texts.specs.Rules.{rule}
 use Rattle.pdb_type_texts.specs.Unfolding.{Unfolds, Runs}
 use Rattle.pdb_type_texts.specs.Progress.{Stage, with_step, open_in, OpensAlone, task_plan, released_by, stage_run}
 
--- something that is still to be done
+-- a remaining step
 pub data PendingPlan : Type 0 where
   -- this plan is printed
   Then : Plan → PendingPlan
   -- an index closes, or an id ends
   Closing : PendingPlan
-  -- a type ends, and a note follows it where one was missing in it
+  -- a type ends; if a type was missing in it, a note follows
   Caught : PendingPlan
-  -- the target of pointers ends that began at a byte of the text, and one of two texts follows it
+  -- the target of pointers ends, which began at this byte of the text; one of two texts follows it
   HeldBack : ℕ → List ℕ → List ℕ → PendingPlan
 
--- what a step is, while these indices are open
+-- the model of a step, while these indices are open
 abbrev pub pending_plan : PrintInputs → List ℕ → Pending → PendingPlan
 pending_plan w inside (Print task) = Then (task_plan w inside task)
 pending_plan w inside (Close index) = Closing
@@ -39,12 +39,12 @@ pending_plan w inside (EndBuffer mark attributes) =
     (attributes_text w.flags Sigil (reverse attributes.items))
     (attributes_text w.flags Text (reverse attributes.items))
 
--- what is still to be done, the next first
+-- the models of the remaining steps, the next one first
 abbrev pub plans : PrintInputs → List Pending → List PendingPlan
 plans w [] = []
 plans w (step ∷ rest) = pending_plan w (open_in rest) step ∷ plans w rest
 
--- from a run so far, what is still to be done comes to this run in the end, whatever documents the plans unfold to
+-- from this run, the remaining steps lead to the run `end`, whatever the documents of the plans are
 abbrev pub Ends : PrintInputs → List PendingPlan → Run → Run → Type 0
 Ends w [] so_far end = so_far ≡ end
 Ends w (Then p ∷ rest) so_far end =
@@ -63,7 +63,7 @@ pub record Counts (w : PrintInputs) (cost : Plan → ℕ) : Type 0 where
       cost (Buffered p after_sigil after_other) ≡ suc (cost p)
   pub catch : (p : Plan) → cost (Catch p) ≡ suc (cost p)
 
--- how many steps are left
+-- the number of remaining steps
 abbrev pub steps_left : (Plan → ℕ) → List PendingPlan → ℕ
 steps_left cost [] = 0
 steps_left cost (Then p ∷ rest) = cost p + steps_left cost rest
@@ -71,35 +71,33 @@ steps_left cost (Closing ∷ rest) = suc (steps_left cost rest)
 steps_left cost (Caught ∷ rest) = suc (steps_left cost rest)
 steps_left cost (HeldBack mark after_sigil after_other ∷ rest) = suc (steps_left cost rest)
 
--- what was to be done became this, with this run so far: it comes to the same, and at least so many steps fewer are
--- left
+-- the steps changed to other ones, and the run to another: they lead to the same end, with at least `fewer` fewer steps
 pub record Goes (w : PrintInputs) (fewer : ℕ) (old : List PendingPlan) (before : Run) (new : List PendingPlan)
     (after : Run)
     : Type 0 where
   pub ends : (end : Run) → Ends w new after end → Ends w old before end
   pub falls : (cost : Plan → ℕ) → Counts w cost → steps_left cost new + fewer ≤ steps_left cost old
 
--- a plan that was to be printed first is settled as far as a stage has come then
+-- printing has passed the first plan when it reaches the second stage
 abbrev pub Advances : PrintInputs → Plan → ℕ → Stage → Parts → Stage → Parts → Type 0
 Advances w p fewer old failed new failed_then =
     Goes w fewer (Then p ∷ plans w old.steps) (stage_run old failed) (plans w new.steps) (stage_run new failed_then)
 
--- a plan that was to be printed first is settled as far as a stage has come then, in which one step more may be left
--- for what closes after it
+-- printing has passed the first plan when it reaches the second stage; one more step may be left for what closes after
+-- the plan
 abbrev pub AdvancesClosing : PrintInputs → Plan → Stage → Parts → Stage → Parts → Type 0
 AdvancesClosing w p old failed new failed_then =
     Goes w 0 (Then p ∷ Closing ∷ plans w old.steps) (stage_run old failed) (plans w new.steps)
     (stage_run new failed_then)
 
--- a plan that is to be printed first stands among the steps of a stage now, in at least so many steps fewer, and
--- nothing else changed
+-- the steps of the second stage have the place of this plan, with at least `fewer` fewer steps; nothing else changed
 pub record Stands (w : PrintInputs) (fewer : ℕ) (p : Plan) (old new : Stage) : Type 0 where
   pub goes : (before : Run) → Goes w fewer (Then p ∷ plans w old.steps) before (plans w new.steps) before
   pub opened : open_in new.steps ≡ open_in old.steps
   pub text : new.text ≡ old.text
   pub failure : new.failure ≡ old.failure
 
--- the same, for the text as it is now and in no more steps
+-- the steps of the second stage have the place of this plan for the current text, with no more steps
 pub record StandsHere (w : PrintInputs) (p : Plan) (old new : Stage) : Type 0 where
   pub goes : (before : Run) → before.text ≡ old.text
       → Goes w 0 (Then p ∷ plans w old.steps) before (plans w new.steps) before
@@ -136,7 +134,7 @@ EnteredAlone w index old failed new failed_then (Some type) =
 EnteredAlone w index old failed new failed_then None =
     (next : TypeData → Plan) → AdvancesClosing w (on_read (w.read index) next) old failed new failed_then
 
--- something that is needed can't be read, and printing failed for it
+-- something needed can't be read, and printing failed for it
 pub record IsRefused (read_error : ReadError) (old : Stage) (failed : Parts) (new : Stage)
     (failed_then : Parts) : Type 0 where
   pub read_error_view : ReadErrorView
@@ -144,7 +142,7 @@ pub record IsRefused (read_error : ReadError) (old : Stage) (failed : Parts) (ne
   pub steps : new.steps ≡ old.steps
   pub ran : stage_run new failed_then ≡ then_by None (stage_run old failed) (run (refusal read_error_view))
 
--- what is printed where it stands can't be read: there is a note of it, or printing failed for it
+-- something that is printed in place can't be read: a note of it is printed, or printing failed for it
 pub record IsNoted (read_error : ReadError) (old : Stage) (failed : Parts) (new : Stage)
     (failed_then : Parts) : Type 0 where
   pub read_error_view : ReadErrorView
@@ -152,7 +150,7 @@ pub record IsNoted (read_error : ReadError) (old : Stage) (failed : Parts) (new 
   pub steps : new.steps ≡ old.steps
   pub ran : stage_run new failed_then ≡ then_by None (stage_run old failed) (run (note_or_refusal read_error_view))
 
--- from a stage on, printing comes to what printing a plan from the beginning does, where these parts failed before
+-- printing from this stage on leads to the same as printing a plan from the start, if these parts failed before
 abbrev pub Begins : PrintInputs → Plan → Parts → Stage → Parts → Type 0
 Begins w p failed s failed_then =
     (end : Run) → Ends w (plans w s.steps) (stage_run s failed_then) end → Runs w p failed end

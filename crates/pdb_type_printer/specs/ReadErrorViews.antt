@@ -1,11 +1,11 @@
--- Why a type can't be read, as the code has it.
+-- The models of the code's read errors.
 use Rattle.std.specs.Prelude.{◌≡◌}
 use Rattle.pdb_types.specs.declared.read_error.ReadError.{ReadError}
 use Rattle.pdb_types.specs.declared.read_error.ReadError.TheVariants as code
 use Rattle.pdb_errors.specs.Errors.{error_view}
 use Rattle.pdb_types.specs.ReadError.{ReadErrorView, Missing, Unimplemented, Refused, Broken}
 
--- this is the view of why something can't be read, a read error; out of memory has none
+-- this is the model of a read error; an allocation failure has none
 abbrev pub IsViewOf : ReadError → ReadErrorView → Type 0
 IsViewOf code.OutOfMemory read_error_view = ⊥
 IsViewOf (code.Missing number) read_error_view = read_error_view ≡ Missing number

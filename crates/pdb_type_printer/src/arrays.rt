@@ -1,4 +1,4 @@
-//! Prints arrays: their elements level by level, and in the end the base with the dimensions after it.
+//! Prints arrays: first the base, found level by level, and then the dimensions.
 
 ghost use Rattle.std.specs.Prelude.{◌≡◌, None, OnOk};
 ghost use Rattle.pdb_records.specs.declared.types.TypeData.TheVariants.{Array};
@@ -20,7 +20,7 @@ use pdb_type_texts::wording::Wording;
 use std::alloc::AllocError;
 use std::collections::BTreeSet;
 
-// An element of an array that is an array: one more level.
+// Adds a level: the element of an array is an array.
 fn further_level(
     progress: &mut Progress<'_>,
     mut elements: BTreeSet<u32>,
@@ -38,7 +38,7 @@ fn further_level(
 }
 
 impl<'a, P: ModuleProvider> TypeFormatter<'a, P> {
-    // The base of an array: its size is asked, and then it is printed with the dimensions after it.
+    // Prints the base of an array, whose size is computed, and the dimensions after it.
     fn base<'s>(
         &mut self,
         module_index: usize,
@@ -72,7 +72,7 @@ impl<'a, P: ModuleProvider> TypeFormatter<'a, P> {
         )
     }
 
-    // An element of an array that was read: one more level, or the base.
+    // Continues with the element of an array: one more level, or the base.
     fn element<'s>(
         &mut self,
         module_index: usize,
@@ -97,7 +97,7 @@ impl<'a, P: ModuleProvider> TypeFormatter<'a, P> {
         }
     }
 
-    // The next element of an array, which may not be one of those so far.
+    // Reads the next element of an array. Fails if it is one of the elements so far, which is circular.
     pub(crate) fn elements<'s>(
         &mut self,
         module_index: usize,

@@ -1,4 +1,4 @@
-//! Prints what functions return, and lists of types as those of their arguments.
+//! Prints return types of functions, and lists of types such as their arguments.
 
 ghost use Rattle.std.specs.Prelude.{◌≡◌, ◌||◌, OnOk};
 ghost use Rattle.pdb_type_texts.specs.FlagTests.{without_return_type};
@@ -17,21 +17,21 @@ use pdb_type_texts::wording::Wording;
 use pdb_types::TypeFormatterFlags;
 use std::alloc::AllocError;
 
-// Whether the type that a function returns is left out, where the function is printed by itself.
+// Whether the return type of a function is omitted, if the function is printed by itself.
 pub(crate) fn is_left_out(flags: TypeFormatterFlags, constructor: bool) -> bool
     ensures { result ≡ (constructor || without_return_type flags) }
 {
     constructor || without_return_type(flags)
 }
 
-// The type that a function returns, unless it is left out.
+// The return type of a function, unless it is omitted.
 pub(crate) fn unless_left_out(left_out: bool, index: Option<TypeIndex>) -> Option<TypeIndex>
     ensures { result ≡ unless_left_out left_out index }
 {
     if left_out { None } else { index }
 }
 
-// The type that a function returns, with a space after it, where there is one to print.
+// Prints the return type of a function and a space, if there is one to print.
 pub(crate) fn returned(
     progress: &mut Progress<'_>,
     index: Option<TypeIndex>,
@@ -45,7 +45,7 @@ pub(crate) fn returned(
     progress.push2(Task::Index(index), Task::Written(Wording::Text(" ")))
 }
 
-// Further types, each after a separator.
+// Prints further types, each after a separator.
 pub(crate) fn further_types<'s>(
     progress: &mut Progress<'s>,
     separator: &'static str,
@@ -64,7 +64,7 @@ pub(crate) fn further_types<'s>(
     )
 }
 
-// Types, with a separator between them, after `this` where that is one of them.
+// Prints types with a separator between them; `this` comes first if it is one of them.
 pub(crate) fn types_between<'s>(
     progress: &mut Progress<'s>,
     separator: &'static str,
@@ -84,7 +84,7 @@ pub(crate) fn types_between<'s>(
     progress.push2(Task::Index(*next), Task::FurtherTypes(separator, rest))
 }
 
-// A function's arguments in parentheses, unless functions are printed without them.
+// Prints a function's arguments in parentheses, unless the flags omit them.
 pub(crate) fn function_arguments(
     progress: &mut Progress<'_>,
     flags: TypeFormatterFlags,

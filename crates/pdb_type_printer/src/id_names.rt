@@ -1,4 +1,4 @@
-//! Prints ids: functions of classes and of none with their scopes, namespaces, and texts in pieces.
+//! Prints ids: member functions, other functions with their scopes, namespaces, and strings in pieces.
 
 ghost use Rattle.std.specs.Prelude.{◌≡◌, [], None, OnOk, IfOk, string_bytes};
 ghost use Rattle.pdb_records.specs.declared.ids.IdData.TheVariants as kind;
@@ -28,7 +28,7 @@ use pdb_types::TypeFormatterFlags;
 use std::alloc::AllocError;
 use std::collections::BTreeSet;
 
-// The scope of an id, and `::` after it.
+// Prints the scope of an id and `::`, if it has a scope.
 pub(crate) fn scope(
     progress: &mut Progress<'_>,
     met: BTreeSet<u32>,
@@ -43,7 +43,7 @@ pub(crate) fn scope(
     progress.push2(Task::Id(met, index), Task::Written(Wording::Text("::")))
 }
 
-// A function of a class: what it returns, the class, its name and its arguments.
+// Prints a member function: its return type, the class, its name and its arguments.
 fn method<'s>(
     progress: &mut Progress<'s>,
     flags: TypeFormatterFlags,
@@ -65,7 +65,7 @@ fn method<'s>(
     )
 }
 
-// A function of no class: what it returns, its scope, its name and its arguments.
+// Prints a function that isn't a member: its return type, its scope, its name and its arguments.
 fn function<'s>(
     progress: &mut Progress<'s>,
     flags: TypeFormatterFlags,
@@ -107,7 +107,7 @@ fn method_by_type<'s>(
     }
 }
 
-// A function of no class, whose type was read: it has to be a procedure's.
+// A function that isn't a member, after its type was read: this must be a procedure type.
 fn function_by_type<'s>(
     progress: &mut Progress<'s>,
     flags: TypeFormatterFlags,
@@ -129,7 +129,7 @@ fn function_by_type<'s>(
     }
 }
 
-// A text in pieces, each of them in quotation marks.
+// Prints a string in pieces, each in quotation marks.
 fn string_list<'s>(
     progress: &mut Progress<'s>,
     substrings: &'s [TypeIndex],
@@ -147,7 +147,7 @@ fn string_list<'s>(
 }
 
 impl<'a, P: ModuleProvider> TypeFormatter<'a, P> {
-    // A function of a class: its type is read, which is open in it alone.
+    // Prints a member function. Its type is read, and only that type is open inside it.
     fn method_id<'s>(
         &mut self,
         module_index: usize,
@@ -169,7 +169,7 @@ impl<'a, P: ModuleProvider> TypeFormatter<'a, P> {
         }
     }
 
-    // A function of no class: its type is read, which is open in it alone.
+    // Prints a function that isn't a member. Its type is read, and only that type is open inside it.
     fn function_id<'s>(
         &mut self,
         module_index: usize,
@@ -192,7 +192,7 @@ impl<'a, P: ModuleProvider> TypeFormatter<'a, P> {
         }
     }
 
-    // An id that was read, by its kind.
+    // Prints an id by its kind.
     fn id_by_kind<'s>(
         &mut self,
         module_index: usize,
@@ -222,7 +222,7 @@ impl<'a, P: ModuleProvider> TypeFormatter<'a, P> {
         }
     }
 
-    // The id of an index, which may not be one of those that it is a scope of.
+    // Reads the id of an index, and prints it. Fails if it is one of the ids of which it is a scope, which is circular.
     pub(crate) fn id<'s>(
         &mut self,
         module_index: usize,
@@ -252,7 +252,7 @@ impl<'a, P: ModuleProvider> TypeFormatter<'a, P> {
         }
     }
 
-    // Prints an id, by its index as the module at a module index writes it.
+    // Prints an id, by an index that the module at a module index uses.
     pub(crate) fn print_id(
         &mut self,
         module_index: usize,

@@ -1,7 +1,7 @@
-//! C++ signatures of functions, types and ids, as they are printed, and the sizes of types.
+//! Prints C++ signatures of functions, types and ids, and computes the sizes of types.
 //!
-//! [`TypeFormatter`] prints a signature by one loop over the steps that are still to be done, so that types
-//! may be nested as deep as memory allows. What it answers is what the definitions say, which have laws.
+//! [`TypeFormatter`] prints a signature with one loop over the tasks that are still to be done. So types may be nested
+//! as deep as memory allows. Its results equal the definitions, on which there are laws.
 #![tactic(auto)]
 
 mod arrays;

@@ -1,4 +1,4 @@
-//! Prints the arguments of methods, by what the type of `this` shows.
+//! Prints the arguments of methods, depending on the type of `this`.
 
 ghost use Rattle.std.specs.Prelude.{◌≡◌, None, OnOk};
 ghost use Rattle.pdb_types.specs.ReadError.{Matches};
@@ -21,7 +21,7 @@ use pdb_type_texts::wording::{Wording, comma};
 use pdb_types::{ReadError, TypeFormatterFlags};
 use std::alloc::AllocError;
 
-// What stands after a method's arguments: `const` too, in the signature of a constant method.
+// The text after a method's arguments. In the signature of a constant method this includes `const`.
 fn closing(form: MethodForm, constant: bool) -> &'static str
     ensures { result.now ≡ closing form constant }
 {
@@ -31,7 +31,7 @@ fn closing(form: MethodForm, constant: bool) -> &'static str
     }
 }
 
-// A method's arguments in parentheses, and `const` after them in the signature of a constant method.
+// Prints a method's arguments in parentheses, and `const` after them in the signature of a constant method.
 pub(crate) fn method_list<'s>(
     progress: &mut Progress<'s>,
     flags: TypeFormatterFlags,
@@ -51,7 +51,7 @@ pub(crate) fn method_list<'s>(
 }
 
 impl<'a, P: ModuleProvider> TypeFormatter<'a, P> {
-    // What a method's `this` shows, where there is one.
+    // Reads what a method's `this` shows: whether the method is constant, and whether `this` is printed as an argument.
     fn read_this(
         &mut self,
         module_index: usize,
@@ -79,7 +79,7 @@ impl<'a, P: ModuleProvider> TypeFormatter<'a, P> {
         Ok(this_by_target(class, this, target))
     }
 
-    // The arguments of a method with this list of them.
+    // Prints the arguments of a method in this list.
     fn list_with_this<'s>(
         &mut self,
         module_index: usize,
@@ -104,7 +104,7 @@ impl<'a, P: ModuleProvider> TypeFormatter<'a, P> {
         }
     }
 
-    // The arguments of a method, whose list was read.
+    // Prints the arguments of a method after their list was read.
     fn on_list<'s>(
         &mut self,
         module_index: usize,
@@ -137,7 +137,7 @@ impl<'a, P: ModuleProvider> TypeFormatter<'a, P> {
         }
     }
 
-    // The arguments of a method, unless functions are printed without them.
+    // Prints the arguments of a method, unless the flags omit them.
     pub(crate) fn method_arguments<'s>(
         &mut self,
         module_index: usize,

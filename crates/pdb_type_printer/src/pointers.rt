@@ -1,4 +1,4 @@
-//! Prints chains of pointers, and around them or before them what they point to.
+//! Prints chains of pointers, with the type to which they point before or around them.
 
 ghost use Rattle.std.specs.Prelude.{◌≡◌, ◌∷◌, false, OnOk, reverse};
 ghost use Rattle.pdb_type_texts.specs.Attributes.{attribute_of};
@@ -17,7 +17,7 @@ use pdb_type_texts::tasks::{MethodForm, Task};
 use pdb_type_texts::wording::Wording;
 use std::alloc::AllocError;
 
-// A pointer to a method: what it returns, the class and the pointers in parentheses, and its arguments.
+// Prints a pointer to a method: its return type, the class and the pointers in parentheses, and its arguments.
 fn pointers_to_method<'s>(
     progress: &mut Progress<'s>,
     attributes: Vec<Attribute>,
@@ -38,8 +38,7 @@ fn pointers_to_method<'s>(
     )
 }
 
-// A pointer to a function: what it returns, the pointers in parentheses, and its arguments in
-// parentheses.
+// Prints a pointer to a function: its return type, the pointers in parentheses, and its arguments in parentheses.
 fn pointers_to_function<'s>(
     progress: &mut Progress<'s>,
     attributes: Vec<Attribute>,
@@ -60,8 +59,7 @@ fn pointers_to_function<'s>(
     )
 }
 
-// The end of a chain of pointers: functions are printed around the pointers, and any other type before
-// them.
+// Prints the end of a chain of pointers: functions around the pointers, any other type before them.
 fn chain_end<'s>(
     progress: &mut Progress<'s>,
     attributes: Vec<Attribute>,
@@ -81,7 +79,7 @@ fn chain_end<'s>(
     }
 }
 
-// A further pointer of a chain.
+// Adds a pointer to the chain.
 fn further_pointer(
     progress: &mut Progress<'_>,
     mut attributes: Vec<Attribute>,
@@ -96,7 +94,7 @@ fn further_pointer(
     progress.push(Task::Chain(attributes, p.underlying_type))
 }
 
-// What follows a modifier in a chain of pointers: a pointer goes on with the chain, all else ends it.
+// Continues a chain of pointers after a modifier: a pointer continues the chain, any other type ends it.
 pub(crate) fn behind_modifier<'s>(
     progress: &mut Progress<'s>,
     attributes: Vec<Attribute>,
@@ -112,8 +110,7 @@ pub(crate) fn behind_modifier<'s>(
     }
 }
 
-// What follows a pointer in a chain of pointers: a pointer or a modifier goes on with the chain, all else
-// ends it.
+// Continues a chain of pointers after a pointer: a pointer or a modifier continues the chain, any other type ends it.
 pub(crate) fn behind_pointer<'s>(
     progress: &mut Progress<'s>,
     mut attributes: Vec<Attribute>,

@@ -1,4 +1,4 @@
-//! What printing reads of the records, and what is printed where it can't be read.
+//! Reads types and ids for printing, and handles those that can't be read.
 
 ghost use Rattle.std.specs.Prelude.{◌≡◌, None, IfOk, OnOk};
 ghost use Rattle.std.specs.Option.{option_copied};
@@ -20,16 +20,16 @@ use pdb_type_texts::wording::Wording;
 use pdb_types::{ReadError, TypeFormatterFlags};
 use std::alloc::AllocError;
 
-// What printing reads, and what is printed where it can't be read.
+// Reading types and ids, and handling those that can't be read.
 impl<'a, P: ModuleProvider> TypeFormatter<'a, P> {
-    // How signatures are printed.
+    // The flags for printing signatures.
     pub(crate) fn flags(&self) -> TypeFormatterFlags
         ensures { result ≡ self.now.type_inputs.flags }
     {
         self.type_inputs.flags()
     }
 
-    // The type of an index, as the module at a module index writes it.
+    // The type with an index that the module at a module index uses.
     #[tactic(auto, unfolding(pdb_type_texts::specs::PrintInputs::type_at))]
     pub(crate) fn printed_type(
         &mut self,
@@ -46,7 +46,7 @@ impl<'a, P: ModuleProvider> TypeFormatter<'a, P> {
         Ok(type_data)
     }
 
-    // The id of an index, as the module at a module index writes it.
+    // The id with an index that the module at a module index uses.
     #[tactic(auto, unfolding(pdb_type_texts::specs::PrintInputs::id_at))]
     pub(crate) fn printed_id(
         &mut self,
@@ -63,7 +63,7 @@ impl<'a, P: ModuleProvider> TypeFormatter<'a, P> {
         Ok(id_data)
     }
 
-    // What is needed can't be read: printing fails.
+    // Makes printing fail, because a needed type or id can't be read.
     pub(crate) fn refuse(
         &mut self,
         progress: &mut Progress<'_>,
@@ -100,8 +100,8 @@ impl<'a, P: ModuleProvider> TypeFormatter<'a, P> {
         }
     }
 
-    // What is printed where it stands can't be read: a note of what is missing or of a kind that isn't known
-    // stands for it, and else printing fails.
+    // Prints a note in place of a type or id that is missing or of an unknown kind. For any other error, printing
+    // fails.
     pub(crate) fn note(
         &mut self,
         progress: &mut Progress<'_>,
@@ -126,8 +126,7 @@ impl<'a, P: ModuleProvider> TypeFormatter<'a, P> {
         }
     }
 
-    // Opens an index and reads its type, which is needed. Where it is open already or can't be read,
-    // printing fails.
+    // Opens an index, and reads its type, which is needed. If it is already open or can't be read, printing fails.
     pub(crate) fn enter(
         &mut self,
         module_index: usize,
@@ -152,8 +151,8 @@ impl<'a, P: ModuleProvider> TypeFormatter<'a, P> {
         }
     }
 
-    // Reads the type of an index, which is needed, and begins an id in which that index alone is open. Where
-    // it can't be read, printing fails.
+    // Reads the type of an index, which is needed, and begins an id in which only that index is open. If it can't be
+    // read, printing fails.
     pub(crate) fn enter_alone(
         &mut self,
         module_index: usize,

@@ -1,4 +1,4 @@
-//! Prints the signatures of functions: their names within what their types say.
+//! Prints the signatures of functions from their names and types.
 
 ghost use Rattle.std.specs.Prelude.{◌≡◌, OnOk, IfOk, string_bytes};
 ghost use Rattle.pdb_records.specs.declared.types.TypeData.TheVariants.{MemberFunction, Procedure};
@@ -19,7 +19,7 @@ use pdb_type_texts::wording::{Wording, function_name, static_word};
 use pdb_types::TypeFormatterFlags;
 use std::alloc::AllocError;
 
-// The signature of a method with this name.
+// Prints the signature of a method with this name.
 fn method<'s>(
     progress: &mut Progress<'s>,
     flags: TypeFormatterFlags,
@@ -39,7 +39,7 @@ fn method<'s>(
     )
 }
 
-// The signature of a procedure with this name.
+// Prints the signature of a procedure with this name.
 fn procedure<'s>(
     progress: &mut Progress<'s>,
     flags: TypeFormatterFlags,
@@ -58,7 +58,7 @@ fn procedure<'s>(
     )
 }
 
-// The signature of a function with this name and type. Where the type is no function's, the name as it is.
+// Prints the signature of a function with this name and type. If the type isn't a function type, prints only the name.
 fn by_type<'s>(
     progress: &mut Progress<'s>,
     flags: TypeFormatterFlags,
@@ -77,8 +77,8 @@ fn by_type<'s>(
 }
 
 impl<'a, P: ModuleProvider> TypeFormatter<'a, P> {
-    // Puts the signature of a function first, with this name and the type of this index. Index 0 is no
-    // type, and then the name stands alone.
+    // Makes the signature of a function, with this name and the type of this index, the first task. Index 0 means no
+    // type; then only the name is printed.
     fn signature<'s>(
         &mut self,
         module_index: usize,
@@ -107,8 +107,8 @@ impl<'a, P: ModuleProvider> TypeFormatter<'a, P> {
         }
     }
 
-    // Prints the signature of a function with this name, and the type of this index as the module at a
-    // module index writes it.
+    // Prints the signature of a function with this name. The index of its type is one that the module at a module index
+    // uses.
     pub(crate) fn print_function(
         &mut self,
         name: &str,

@@ -1,4 +1,4 @@
-//! The loop of printing: each turn prints a task, or puts the tasks first that it is made of.
+//! The loop of printing. Each turn prints a task, or replaces it by the tasks of which it consists.
 
 ghost use Rattle.std.specs.Prelude.{◌≡◌, None, Ok, OnOk, reverse};
 ghost use Rattle.pdb_types.specs.FailedParts.{Parts};
@@ -20,7 +20,7 @@ use pdb_type_texts::tasks::Task;
 use pdb_types::TypeFormatterFlags;
 use std::alloc::AllocError;
 
-// The type of an index that was read: it is printed while the index is open.
+// Prints the type of an index. The index is open while it is printed.
 fn index_read<'s>(
     progress: &mut Progress<'s>,
     index: TypeIndex,
@@ -37,7 +37,7 @@ fn index_read<'s>(
     progress.push(Task::OfType(type_data))
 }
 
-// A type: what is printed of its kind, and a note where a type is missing in it.
+// Prints a type by its kind, and a note if a type in it is missing.
 pub(crate) fn of_type<'s>(
     progress: &mut Progress<'s>,
     flags: TypeFormatterFlags,
@@ -53,7 +53,7 @@ pub(crate) fn of_type<'s>(
 }
 
 impl<'a, P: ModuleProvider> TypeFormatter<'a, P> {
-    // The type of an index.
+    // Reads and prints the type of an index.
     pub(crate) fn index<'s>(
         &mut self,
         module_index: usize,
@@ -75,7 +75,7 @@ impl<'a, P: ModuleProvider> TypeFormatter<'a, P> {
         }
     }
 
-    // A chain of pointers to the type of an index.
+    // Continues a chain of pointers with the type of an index.
     pub(crate) fn chain<'s>(
         &mut self,
         module_index: usize,
@@ -98,7 +98,7 @@ impl<'a, P: ModuleProvider> TypeFormatter<'a, P> {
         }
     }
 
-    // A chain of pointers with a modifier between them and the type of an index.
+    // Continues a chain of pointers, after a modifier, with the type of an index.
     pub(crate) fn chain_behind_modifier<'s>(
         &mut self,
         module_index: usize,
@@ -121,7 +121,7 @@ impl<'a, P: ModuleProvider> TypeFormatter<'a, P> {
         }
     }
 
-    // The target of a modifier.
+    // Prints the target of a modifier.
     pub(crate) fn modifier<'s>(
         &mut self,
         module_index: usize,
@@ -143,7 +143,7 @@ impl<'a, P: ModuleProvider> TypeFormatter<'a, P> {
         }
     }
 
-    // One turn: prints a task, or puts what is printed of it first.
+    // One turn of the loop: prints a task, or replaces it by the tasks of which it consists.
     fn turn<'s>(
         &mut self,
         module_index: usize,
@@ -198,7 +198,7 @@ impl<'a, P: ModuleProvider> TypeFormatter<'a, P> {
         }
     }
 
-    // Prints until nothing is left to be done.
+    // Prints until no task is left.
     pub(crate) fn print<'s>(
         &mut self,
         module_index: usize,

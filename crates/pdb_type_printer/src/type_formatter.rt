@@ -1,4 +1,4 @@
-//! `TypeFormatter`: the sizes of types, and the signatures of functions and ids as text.
+//! `TypeFormatter`: computes the sizes of types, and prints the signatures of functions and ids.
 
 ghost use Rattle.std.specs.Prelude.{◌≡◌, [], IfOk, OnOk, OnErr, MatchResult};
 ghost use Rattle.std.specs.Option.{option_copied};
@@ -23,10 +23,10 @@ use std::alloc::Global;
 use std::fmt;
 use std::marker::Model;
 
-/// Answers the sizes of types, and prints the signatures of functions and ids.
+/// Computes the sizes of types, and prints the signatures of functions and ids.
 ///
-/// Its inputs are the records that it was given. Of what happens between two questions it remembers one
-/// thing that later answers show: which parts of the records it met broken.
+/// Its inputs are the records with which it was made. Between questions it remembers only one thing that can change a
+/// later answer: which parts of the records it found broken.
 pub struct TypeFormatter<'a, P: ModuleProvider> {
     pub(crate) type_inputs: TypeInputs<'a, P>,
     pub(crate) cache: TypeCache<'a>,
@@ -53,11 +53,11 @@ impl<P: ModuleProvider> Drop for TypeFormatter<'_, P> {
 }
 
 impl<'a, P: ModuleProvider> TypeFormatter<'a, P> {
-    /// A formatter whose inputs are these records. Of the debug information it takes the machine alone.
+    /// Makes a formatter whose inputs are these records. Of the debug information only the machine is used.
     ///
     /// # Errors
     ///
-    /// [`Error::PdbError`](crate::Error::PdbError) where the machine could not be read.
+    /// [`Error::PdbError`](crate::Error::PdbError) if the machine can't be read.
     pub fn new_from_parts(
         alloc: Global,
         provider: &'a P,
@@ -95,22 +95,21 @@ impl<'a, P: ModuleProvider> TypeFormatter<'a, P> {
         Ok(TypeFormatter { type_inputs, cache })
     }
 
-    /// The modules that the formatter was given, in their order.
+    /// The modules with which the formatter was made, in their order.
     pub fn modules(&self) -> &[Module]
         ensures { result.now ≡ self.now.type_inputs.modules }
     {
         self.type_inputs.modules()
     }
 
-    /// The size of a type in bytes, for an index as the module at `module_index` writes it.
+    /// The size of a type in bytes. Its index is one that the module at `module_index` uses.
     ///
-    /// An enumeration and a modifier have the size of the type underneath. A type that can't be read
-    /// has size 0, and so has one that is underneath itself. A part of the records that is met broken
-    /// is remembered.
+    /// An enumeration and a modifier have the size of the type underneath. The size is 0 for a type that can't be read,
+    /// and for one that is underneath itself. If a part of the records is found broken, it is remembered.
     ///
     /// # Errors
     ///
-    /// Answers `OutOfMemory` where memory runs out. The formatter is then as it was before.
+    /// `OutOfMemory` if memory runs out. The formatter then stays as it was.
     pub fn get_type_size(&mut self, module_index: usize, index: TypeIndex) -> Result<u64>
         ensures answer { MatchResult result
             (λ size. size ≡ (size_of P.info self.old.type_inputs module_index index.0).size)
@@ -127,17 +126,15 @@ impl<'a, P: ModuleProvider> TypeFormatter<'a, P> {
         Ok(found.size)
     }
 
-    /// The signature of a function: its name, with the type of this index as the module at `module_index`
-    /// writes it. Index 0 is no type, and then the name stands alone; where the type is no function's, the
-    /// name stands as it is.
+    /// The signature of a function with this name and type. The type's index is one that the module at `module_index`
+    /// uses. Index 0 means no type. Without a type, or if it isn't a function type, the result is only the name.
     ///
     /// # Errors
     ///
-    /// The first error of what is printed: [`Error::CircularTypeDefinition`](crate::Error) for an index
-    /// that opens inside itself and for an array that is among its own elements, and the errors of types
-    /// that can't be read. A part of the records that is met broken answers its own error the first time, and
-    /// then that it failed before. Types that are missing and of unknown kinds have a note in the text where
-    /// they are printed by themselves.
+    /// The first error during printing: [`Error::CircularTypeDefinition`](crate::Error) for an index that occurs inside
+    /// itself or an array that is among its own elements, and the errors of types that can't be read. A broken part of
+    /// the records gives its own error the first time, and afterwards the error that it failed before. Missing types
+    /// and types of unknown kinds get a note in the text if they are printed by themselves.
     pub fn format_function(
         &mut self,
         name: &str,
@@ -154,13 +151,12 @@ impl<'a, P: ModuleProvider> TypeFormatter<'a, P> {
         printed_text(self.print_function(name, module_index, index)?)
     }
 
-    /// Writes the signature that [`TypeFormatter::format_function`] answers.
+    /// Writes the signature that [`TypeFormatter::format_function`] returns.
     ///
     /// # Errors
     ///
-    /// As of [`TypeFormatter::format_function`]; the writer then has the text that was printed before the
-    /// error, except where memory runs out: then it has nothing. [`Error::FormatError`](crate::Error) where the
-    /// writer refused the text.
+    /// Those of [`TypeFormatter::format_function`]. The text before the error is then written, except if memory ran
+    /// out: then nothing is. [`Error::FormatError`](crate::Error) if the writer refuses the text.
     pub fn emit_function<W: fmt::Write>(
         &mut self,
         writer: &mut W,
@@ -179,18 +175,18 @@ impl<'a, P: ModuleProvider> TypeFormatter<'a, P> {
         write_printed(writer, printed)
     }
 
-    /// An id as text, for an index as the module at `module_index` writes it: a function of a class with its
-    /// class, a function of no class with the scopes that it stands in, a text, or texts in quotation marks.
+    /// An id as text: a member function with its class, another function with its scopes, a string, or strings in
+    /// quotation marks. The id's index is one that the module at `module_index` uses.
     ///
     /// # Errors
     ///
-    /// The first error of what is printed: [`Error::CircularTypeDefinition`](crate::Error) for an id that is
-    /// a scope of itself and as of [`TypeFormatter::format_function`],
+    /// The first error during printing: [`Error::CircularTypeDefinition`](crate::Error) for an id that is a scope of
+    /// itself, and as in [`TypeFormatter::format_function`];
     /// [`Error::MemberFunctionIdIsNotMemberFunctionType`](crate::Error) and
-    /// [`Error::FunctionIdIsNotProcedureType`](crate::Error) for a function whose type is of another kind, and
-    /// the errors of types and ids that can't be read. A part of the records that is met broken answers its own
-    /// error the first time, whether for a type or for an id, and then that it failed before. Ids that are
-    /// missing and of unknown kinds have a note in the text, and so have types that are printed by themselves.
+    /// [`Error::FunctionIdIsNotProcedureType`](crate::Error) for a function whose type has another kind; and the errors
+    /// of types and ids that can't be read. A broken part of the records gives its own error the first time, whether
+    /// for a type or for an id, and afterwards the error that it failed before. Missing ids, ids of unknown kinds, and
+    /// such types that are printed by themselves get a note in the text.
     pub fn format_id(&mut self, module_index: usize, index: IdIndex) -> Result<String>
         ensures answer { AnswersText
             (id_run P.info self.old.type_inputs module_index index.0 self.old.failed)
@@ -202,13 +198,12 @@ impl<'a, P: ModuleProvider> TypeFormatter<'a, P> {
         printed_text(self.print_id(module_index, index)?)
     }
 
-    /// Writes the text that [`TypeFormatter::format_id`] answers.
+    /// Writes the text that [`TypeFormatter::format_id`] returns.
     ///
     /// # Errors
     ///
-    /// As of [`TypeFormatter::format_id`]; the writer then has the text that was printed before the error,
-    /// except where memory runs out: then it has nothing. [`Error::FormatError`](crate::Error) where the writer
-    /// refused the text.
+    /// Those of [`TypeFormatter::format_id`]. The text before the error is then written, except if memory ran out: then
+    /// nothing is. [`Error::FormatError`](crate::Error) if the writer refuses the text.
     pub fn emit_id<W: fmt::Write>(
         &mut self,
         writer: &mut W,
@@ -226,7 +221,7 @@ impl<'a, P: ModuleProvider> TypeFormatter<'a, P> {
         write_printed(writer, printed)
     }
 
-    // Where memory comes from.
+    // The allocator.
     pub(crate) fn allocator(&self) -> Global {
         self.type_inputs.allocator()
     }

@@ -1,4 +1,4 @@
-//! Prints types by their kinds, each of them one step deep.
+//! Prints types by their kinds, one level deep.
 
 ghost use Rattle.std.specs.Prelude.{◌≡◌, ◌∷◌, [], codes, if◌then◌else◌, OnOk};
 ghost use Rattle.pdb_records.specs.declared.types.TypeData.TheVariants.{MemberFunction, Procedure, Array};
@@ -22,7 +22,7 @@ use pdb_types::TypeFormatterFlags;
 use std::alloc::AllocError;
 use std::collections::BTreeSet;
 
-// A name, with the word that it was declared with before it, unless names stand alone.
+// Prints a name, after `class`, `union` or a similar word unless the flags omit that.
 fn declared<'s>(
     progress: &mut Progress<'s>,
     word: &'static str,
@@ -34,7 +34,7 @@ fn declared<'s>(
     progress.push(Task::Written(Wording::Declared(word, name)))
 }
 
-// A method: what it returns where that is wanted, and its arguments.
+// Prints a method: its return type if that is wanted, and its arguments.
 fn method<'s>(
     progress: &mut Progress<'s>,
     flags: TypeFormatterFlags,
@@ -51,7 +51,7 @@ fn method<'s>(
     )
 }
 
-// A procedure: what it returns where that is wanted, and its arguments, with no parenthesis after them.
+// Prints a procedure: its return type if that is wanted, and its arguments, without a parenthesis after them.
 fn procedure<'s>(
     progress: &mut Progress<'s>,
     flags: TypeFormatterFlags,
@@ -68,7 +68,7 @@ fn procedure<'s>(
     )
 }
 
-// A pointer, constant where it says so or `constant` does: a chain of pointers begins.
+// Begins a chain of pointers. The pointer is constant if its record or `constant` says so.
 pub(crate) fn pointer(
     progress: &mut Progress<'_>,
     p: &PointerType,
@@ -83,7 +83,7 @@ pub(crate) fn pointer(
     progress.push(Task::Chain(attributes, p.underlying_type))
 }
 
-// An array: its levels and elements begin.
+// Begins the levels of an array.
 fn array(progress: &mut Progress<'_>, a: &ArrayType) -> Result<(), AllocError>
     ensures { OnOk result ((w : PrintInputs)
         → Stands w 0 (by_kind w (open_in progress.old.steps) (Array a.now)) progress.old progress.new) }
@@ -94,14 +94,14 @@ fn array(progress: &mut Progress<'_>, a: &ArrayType) -> Result<(), AllocError>
     progress.push(Task::Elements(elements, levels, a.element_type))
 }
 
-// The word before a type that is constant.
+// The word before a constant type.
 fn const_word(constant: bool) -> &'static str
     ensures { result.now ≡ (if constant then codes "const " else []) }
 {
     if constant { "const " } else { "" }
 }
 
-// The target of a modifier, constant or not.
+// Prints the target of a modifier, which may be constant.
 pub(crate) fn modified<'s>(
     progress: &mut Progress<'s>,
     constant: bool,
@@ -122,7 +122,7 @@ pub(crate) fn modified<'s>(
     }
 }
 
-// A type, by its kind.
+// Prints a type by its kind.
 pub(crate) fn by_kind<'s>(
     progress: &mut Progress<'s>,
     flags: TypeFormatterFlags,

@@ -9,11 +9,11 @@ pub use Rattle.pdb_type_texts.specs.declared.attributes.Attribute.{Attribute}
 use Rattle.pdb_type_texts.specs.declared.attributes.Predecessor.{Predecessor}
 use Rattle.pdb_type_texts.specs.declared.attributes.Predecessor.TheVariants.{Opening, Sigil, Text}
 
--- a pointer, before it is known what it points to: constant as it says itself, or where `const` stands before it
+-- the attributes of a pointer before its target is known; it is constant by itself, or if `const` is before it
 abbrev pub attribute_of : PointerType → Bool → Attribute
 attribute_of p constant = record { points = p.mode; constant_pointer = p.is_const || constant; constant_target = false }
 
--- the last pointer of these, which stands first, points to something constant or not
+-- the last pointer, which is first in the list, gets a constant target or not
 abbrev pub with_target : Bool → List Attribute → List Attribute
 with_target constant [] = []
 with_target constant (a ∷ earlier) =
@@ -27,29 +27,29 @@ sigil pointer.Member = codes "::*"
 sigil pointer.MemberFunction = codes "::*"
 sigil pointer.RValueReference = codes "&&"
 
--- the space before a sign, where one is wanted
+-- the space before a sign, if it is wanted
 abbrev pub space_before_sigil : TypeFormatterFlags → List ℕ
 space_before_sigil flags = if with_space_before_pointer flags then codes " " else []
 
--- before a sign: `const` where the target is constant, and the space that is wanted, unless the opening or a sign is
--- just before it
+-- the text before a sign: `const` if the target is constant, and the space if it is wanted, unless the opening or a
+-- sign is just before it
 abbrev pub before_sigil : TypeFormatterFlags → Predecessor → Bool → List ℕ
 before_sigil flags Opening true = codes "const" ++ space_before_sigil flags
 before_sigil flags other true = codes " const" ++ space_before_sigil flags
 before_sigil flags Text false = space_before_sigil flags
 before_sigil flags other false = []
 
--- what a pointer ends in: its sign, or `const`
+-- the end of a pointer's text: its sign, or `const`
 abbrev pub end_of : Attribute → Predecessor
 end_of a = if a.constant_pointer then Text else Sigil
 
--- one pointer: what stands before its sign, the sign, and `const` where it is constant itself
+-- the text of one pointer: the text before its sign, the sign, and `const` if the pointer is constant
 abbrev pub attribute_text : TypeFormatterFlags → Predecessor → Attribute → List ℕ
 attribute_text flags predecessor a =
     before_sigil flags predecessor a.constant_target ++ sigil a.points
     ++ (if a.constant_pointer then codes " const" else [])
 
--- the pointers of a chain, the last first, after what stands just before them
+-- the text of the pointers of a chain, the last first; `predecessor` is what is just before them
 abbrev pub attributes_text : TypeFormatterFlags → Predecessor → List Attribute → List ℕ
 attributes_text flags predecessor [] = []
 attributes_text flags predecessor (a ∷ earlier) =

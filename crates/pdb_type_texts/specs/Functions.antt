@@ -1,4 +1,4 @@
--- Functions: what they return, and their arguments. The list `inside` has the indices of types that are open.
+-- Functions: their return types and arguments. The list `inside` has the indices of types that are open.
 use Rattle.std.specs.Prelude.{◌||◌, ℕ, Bool, List, [], ◌∷◌, Option, Some, None, codes, if◌then◌else◌}
 use Rattle.pdb_records.specs.declared.types.TypeIndex.{TypeIndex}
 use Rattle.pdb_type_texts.specs.FlagTests.{without_return_type, without_arguments}
@@ -6,17 +6,16 @@ use Rattle.pdb_type_texts.specs.Wording.{comma}
 use Rattle.pdb_type_texts.specs.PrintInputs.{PrintInputs}
 use Rattle.pdb_type_texts.specs.Plans.{Index, Plan, Later, ◌▸◌, written}
 
--- the type that a function returns, unless it is left out
+-- the return type of a function, unless it isn't printed
 abbrev pub unless_left_out : Bool → Option TypeIndex → Option TypeIndex
 unless_left_out left_out index = if left_out then None else index
 
--- the type that a function returns, with a space after it: nothing where there is none to print
+-- the return type of a function with a space after it; empty if there is none to print
 abbrev pub returned : List ℕ → Option TypeIndex → Plan
 returned inside None = written []
 returned inside (Some index) = Later inside (Index index.0) ▸ written (codes " ")
 
--- the same, for a function that is printed by itself: left out for a constructor, and where functions are printed
--- without it
+-- the return type of a function that is printed by itself; not printed for a constructor, and if the flags say so
 abbrev pub returned_if_wanted : PrintInputs → List ℕ → Bool → Option TypeIndex → Plan
 returned_if_wanted w inside constructor index =
     returned inside (unless_left_out (constructor || without_return_type w.flags) index)

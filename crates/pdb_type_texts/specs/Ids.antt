@@ -1,5 +1,4 @@
--- The rules by which ids are printed, each of them one step deep.
--- The list `inside` has the indices of types that are open.
+-- The rules for printing ids, each of them one step deep. The list `inside` has the indices of types that are open.
 use Rattle.std.specs.Prelude.{ℕ, List, [], ◌∷◌, Option, Some, None, codes}
 use Rattle.pdb_records.specs.Names.{lossy}
 use Rattle.pdb_records.specs.declared.ids.FunctionId.{FunctionId}
@@ -19,7 +18,7 @@ use Rattle.pdb_type_texts.specs.Plans.{Index, Id, MethodArguments, Plan, Later, 
 use Rattle.pdb_type_texts.specs.Wording.{function_name, static_text, unhandled_scope_text}
 use Rattle.pdb_type_texts.specs.PrintInputs.{PrintInputs}
 
--- a function of a class, by its type: what it returns, the class, its name and its arguments
+-- the id of a method, by its type: its return type, the class, its name and its arguments
 abbrev pub method_id : PrintInputs → MemberFunctionId → List ℕ → TypeData → Plan
 method_id w method inside (MemberFunction m) =
     written (static_text w.flags m.this_pointer_type)
@@ -30,13 +29,13 @@ method_id w method inside (MemberFunction m) =
     ▸ Later inside (MethodArguments m Signature)
 method_id w method inside other = failing (Plain MemberFunctionIdIsNotMemberFunctionType)
 
--- the scope of a function, and `::` after it: nothing where it has none. Each id that this one is a scope of, or a
--- scope's scope, and so on, was met
+-- the scope of a function and `::`; empty if it has none. The list `met` has the ids whose scope this is, directly or
+-- through further scopes
 abbrev pub scope : List ℕ → List ℕ → Option IdIndex → Plan
 scope met inside None = written []
 scope met inside (Some index) = Later inside (Id met index.0) ▸ written (codes "::")
 
--- a function of no class, by its type: what it returns, its scope, its name and its arguments
+-- the id of a function outside classes, by its type: its return type, its scope, its name and its arguments
 abbrev pub function_id : PrintInputs → List ℕ → FunctionId → List ℕ → TypeData → Plan
 function_id w met function inside (Procedure p) =
     returned_if_wanted w inside p.is_constructor p.return_type
@@ -45,7 +44,7 @@ function_id w met function inside (Procedure p) =
     ▸ function_arguments w inside p.argument_list
 function_id w met function inside other = failing (Plain FunctionIdIsNotProcedureType)
 
--- an id, by its kind; of the indices of types that of a function's type alone is open
+-- an id, by its kind; only the index of a function's type is open in it
 abbrev pub id_by_kind : PrintInputs → List ℕ → IdData → Plan
 id_by_kind w met (id.MemberFunction method) =
     on_read (w.read method.function_type.0) (method_id w method (method.function_type.0 ∷ []))
@@ -56,6 +55,6 @@ id_by_kind w met (id.StringList substrings) =
     written (codes "\"") ▸ types_between (codes "\" \"") [] substrings ▸ written (codes "\"")
 id_by_kind w met (id.Other kind) = written (unhandled_scope_text kind)
 
--- the id of this index, where no id was met before
+-- the id of this index, outside of other ids
 abbrev pub id_of_index : ℕ → Plan
 id_of_index index = Later [] (Id [] index)

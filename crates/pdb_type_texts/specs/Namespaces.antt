@@ -1,10 +1,10 @@
--- The texts that namespaces are called by.
+-- The printed names of namespaces.
 use Rattle.std.specs.Prelude.{ℕ, ◌&&◌, ◌^◌, Bool, List, length, drop, codes, nat_eq, nat_lt, if◌then◌else◌}
 use Rattle.std.specs.Char.{is_digit}
 use Rattle.std.specs.List.{list_all, starts_with}
 use Rattle.std.specs.Str.Parse.{digits_value, without_leading_plus}
 
--- one hexadecimal digit or more, which may have `+` before them, and nothing else; a number of 32 bits
+-- whether a text is a hash: hexadecimal digits of a 32-bit number, which may have `+` before them
 abbrev pub is_hash : List ℕ → Bool
 is_hash text =
     let hexadecimals = without_leading_plus text in
@@ -12,10 +12,10 @@ is_hash text =
     && list_all (λ digit. is_digit digit 16) hexadecimals
     && nat_lt (digits_value 16 hexadecimals) (2 ^ 32)
 
--- the compiler calls a namespace so that has no name: `?A0x`, and a hash after it
+-- whether a text is the compiler's name for a namespace without a name: `?A0x` and a hash
 abbrev pub is_anonymous : List ℕ → Bool
 is_anonymous text = starts_with nat_eq text (codes "?A0x") && is_hash (drop 4 text)
 
--- what a namespace is called in print
+-- the printed name of a namespace
 abbrev pub namespace_text : List ℕ → List ℕ
 namespace_text text = if is_anonymous text then codes "`anonymous namespace'" else text

@@ -15,7 +15,7 @@ use Rattle.pdb_type_texts.specs.Attributes.{Attribute}
 use Rattle.pdb_type_texts.specs.PrintInputs.{PrintInputs}
 use Rattle.pdb_type_texts.specs.Wording.{missing_text, unimplemented_text}
 
--- what is still to be printed
+-- a task that is still to be printed
 pub data Task : Type 0 where
   -- the type of an index
   Index : ℕ → Task
@@ -25,7 +25,7 @@ pub data Task : Type 0 where
   MethodArguments : MemberFunctionType → MethodForm → Task
   -- a chain of pointers, the last first, that points to the type of an index
   Chain : List Attribute → ℕ → Task
-  -- the same, where a modifier stands between the last pointer and the type of the index
+  -- a chain of pointers whose last one points to a modifier of the type of an index
   BehindModifier : List Attribute → ℕ → Task
   -- the type of an index, constant or not
   Modified : Bool → ℕ → Task
@@ -35,17 +35,17 @@ pub data Task : Type 0 where
   -- the id of an index, which is a scope of these ids, in order
   Id : List ℕ → ℕ → Task
 
--- what is to be printed, as far as one rule settles it
+-- a plan: what is printed, as far as one rule determines it
 pub data Plan : Type 0 where
   -- this document
   Done : Document → Plan
-  -- what the rule of a task gives, while these indices are open
+  -- the plan by the rule of a task, while these indices are open
   Later : List ℕ → Task → Plan
   -- one plan, and then another
   Seq : Plan → Plan → Plan
-  -- a plan whose text is held back, and one of two texts after it
+  -- a plan whose text is buffered, and one of two texts after it
   Buffered : Plan → List ℕ → List ℕ → Plan
-  -- a plan, with a note where it fails for a type that is missing
+  -- a plan, with a note if it fails because of a missing type
   Catch : Plan → Plan
 
 -- one plan, and then another
@@ -61,48 +61,48 @@ written text = Done (document.Text text)
 abbrev pub failing : ErrorView → Plan
 failing e = Done (document.Fail (OfError e))
 
--- an index that opens inside itself
+-- the error for an index that opens inside itself
 abbrev pub circular : ℕ → Plan
 circular index = failing (Plain (CircularTypeDefinition index))
 
--- an index is among these
+-- whether an index is in a list
 abbrev pub is_among : ℕ → List ℕ → Bool
 is_among index indices = list_any (λ other. index == other) indices
 
--- why what is needed can't be read: that is the error
+-- the failure for something needed that can't be read
 abbrev pub refusal : ReadErrorView → Document
 refusal (Missing index) = document.Fail (TypeNotFound index)
 refusal (Unimplemented kind) = document.Fail (OfError (Plain (PdbError (UnimplementedTypeKind kind))))
 refusal (Refused e) = document.Fail (OfError e)
 refusal (Broken part e) = document.Ask part e
 
--- why what is printed where it stands can't be read: a note of what is missing or of a kind that isn't known, else the
--- error
+-- the text for something printed in place that can't be read: a note if it is missing or of an unknown kind, otherwise
+-- the failure
 abbrev pub note_or_refusal : ReadErrorView → Document
 note_or_refusal (Missing index) = document.Text (missing_text index)
 note_or_refusal (Unimplemented kind) = document.Text (unimplemented_text kind)
 note_or_refusal (Refused e) = document.Fail (OfError e)
 note_or_refusal (Broken part e) = document.Ask part e
 
--- what follows what is needed
+-- the plan after something needed was read, or its failure
 abbrev pub on_read : {A : Type 0} → Result A ReadErrorView → (A → Plan) → Plan
 on_read (Ok answer) next = next answer
 on_read (Err read_error_view) next = Done (refusal read_error_view)
 
--- what follows what is printed where it stands
+-- the plan after something printed in place was read, or its note or failure
 abbrev pub on_printed : {A : Type 0} → Result A ReadErrorView → (A → Plan) → Plan
 on_printed (Ok answer) next = next answer
 on_printed (Err read_error_view) next = Done (note_or_refusal read_error_view)
 
--- an index opens: it may not be open already
+-- the plan inside an index that opens; an error if it is open already
 abbrev pub opened : List ℕ → ℕ → Plan → Plan
 opened inside index within = if is_among index inside then circular index else within
 
--- an index opens, and its type is read and needed
+-- the plan inside an index that opens and whose type is read; the type is needed
 abbrev pub opening : PrintInputs → List ℕ → ℕ → (List ℕ → TypeData → Plan) → Plan
 opening w inside index next = opened inside index (on_read (w.read index) (next (index ∷ inside)))
 
--- a part of the records that is met broken on the way, and then a plan
+-- a part of the records that was found broken on the way, and then a plan
 abbrev pub met_before : Option Part → Plan → Plan
 met_before None plan = plan
 met_before (Some part) plan = Done (document.Met part) ▸ plan

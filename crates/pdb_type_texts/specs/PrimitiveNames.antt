@@ -1,4 +1,4 @@
--- How the types that the compiler brings are printed.
+-- The texts of primitive types.
 use Rattle.std.specs.Prelude.{ℕ, ◌++◌, Bool, List, [], codes, if◌then◌else◌}
 use Rattle.pdb_records.specs.declared.types.PrimitiveKind.{PrimitiveKind}
 use Rattle.pdb_records.specs.declared.types.PrimitiveKind.TheVariants.{NoType, Void, Char, UChar, RChar, WChar}
@@ -12,7 +12,7 @@ use Rattle.pdb_records.specs.declared.types.PrimitiveType.{PrimitiveType}
 use Rattle.pdb_types.specs.declared.flags.TypeFormatterFlags.{TypeFormatterFlags}
 use Rattle.pdb_type_texts.specs.FlagTests.{with_space_before_pointer}
 
--- the name of a type that the compiler brings
+-- the name of a primitive type
 abbrev pub primitive_name : PrimitiveKind → List ℕ
 primitive_name NoType = codes "<NoType>"
 primitive_name Void = codes "void"
@@ -58,17 +58,17 @@ primitive_name Bool32 = codes "bool32_t"
 primitive_name Bool64 = codes "bool64_t"
 primitive_name HRESULT = codes "HRESULT"
 
--- a pointer to a named type, where the named type is constant or not
+-- the text of a pointer to a named type, which is constant or not
 abbrev pub pointer_to : TypeFormatterFlags → List ℕ → Bool → List ℕ
 pointer_to flags named constant =
     named ++ (if constant then codes " const" else [])
     ++ (if with_space_before_pointer flags then codes " *" else codes "*")
 
--- a named type, constant or not
+-- the text of a named type, constant or not
 abbrev pub constant_or_not : List ℕ → Bool → List ℕ
 constant_or_not named constant = (if constant then codes "const " else []) ++ named
 
--- a type that the compiler brings, constant or not; where it is a pointer, it is the value that is constant
+-- the text of a primitive type, constant or not; with a pointer to one, the target is constant
 abbrev pub primitive_text : TypeFormatterFlags → PrimitiveType → Bool → List ℕ
 primitive_text flags p constant =
     if p.indirection then pointer_to flags (primitive_name p.kind) constant

@@ -1,4 +1,4 @@
--- The print inputs: what the printing of types and ids is computed from.
+-- The print inputs: the data from which types and ids are printed.
 use Rattle.std.specs.Prelude.{ℕ, Result, Ok}
 use Rattle.pdb_records.specs.Readings.{Read}
 use Rattle.pdb_records.specs.declared.types.Item.{Item}
@@ -15,23 +15,22 @@ use Rattle.pdb_records.specs.Provided.{ProviderInfos}
 use Rattle.pdb_types.specs.TypeSizes.{read_type, type_size}
 use Rattle.pdb_types.specs.ReadError.{ReadErrorView}
 
--- the print inputs, for one module that asks: the type of each index, its size, the id of each index, and how
--- types are printed
+-- the print inputs for one module: the type for each index, its size, the id for each index, and the flags
 pub record PrintInputs : Type 0 where
   pub read : ℕ → Result TypeData ReadErrorView
   pub size : ℕ → TypeSize
   pub read_id : ℕ → Result IdData ReadErrorView
   pub flags : TypeFormatterFlags
 
--- the type of an index, asked by the module at a module index, whatever number the index stands for
+-- the type for an index of the module with this module index, without the number to which the index resolves
 unfoldable pub type_at : LinkInputs → Read (Item TypeIndex TypeData) → ℕ → ℕ → Result TypeData ReadErrorView
 type_at w types module_index index = and_then (read_type w types module_index index) (λ read. Ok read.1)
 
--- the id of an index, asked by the module at a module index, whatever number the index stands for
+-- the id for an index of the module with this module index, without the number to which the index resolves
 unfoldable pub id_at : LinkInputs → Read (Item IdIndex IdData) → ℕ → ℕ → Result IdData ReadErrorView
 id_at w ids module_index index = and_then (reading (λ i. i.0) w ids module_index index) (λ read. Ok read.1)
 
--- the print inputs where the module at a module index asks
+-- the print inputs for the module with this index
 abbrev pub print_inputs_of : LinkInputs → Read (Item TypeIndex TypeData) → Read (Item IdIndex IdData) → ℕ
     → TypeFormatterFlags
     → ℕ → PrintInputs
@@ -42,7 +41,7 @@ print_inputs_of w types ids pointer flags module_index = record {
   flags = flags;
 }
 
--- the print inputs of a formatter, where the module at a module index asks
+-- the print inputs of a formatter, for the module with this index
 abbrev pub formatter_inputs : {P : Type 0} → (P → ProviderInfos) → TypeInputs P → ℕ → PrintInputs
 formatter_inputs info s module_index =
     print_inputs_of (link_inputs info s) s.types s.ids s.pointer_size s.flags module_index

@@ -1,4 +1,4 @@
--- What printing does, as a function of the print inputs.
+-- The results of printing, as functions of the print inputs.
 use Rattle.std.specs.Prelude.{◌≡◌, Option, Some, None, ℕ, zero, suc, ◌+◌, ◌*◌, ◌^◌, List, []}
 use Rattle.pdb_types.specs.FailedParts.{Parts}
 use Rattle.pdb_types.specs.TypeInputs.{TypeInputs}
@@ -20,33 +20,31 @@ plan_document next (Buffered p after_sigil after_other) =
     document.Buffered (plan_document next p) after_sigil after_other
 plan_document next (Catch p) = document.Catch (plan_document next p)
 
--- the document of a task, where rules lead to rules at most so many times
+-- the document of a task, if rules lead to rules at most this many times
 unfoldable pub task_document : PrintInputs → ℕ → List ℕ → Task → Document
 task_document w zero inside task = document.Text []
 task_document w (suc times) inside task = plan_document (task_document w times) (rule w inside task)
 
--- more times than rules can lead to rules, where so many indices may lead to types and to ids: each time fewer of them
--- are free to open or to be met, or as many and what is left to be printed is simpler
+-- a number of times above that by which rules can lead to rules, with this many indices of types and of ids. Each time
+-- fewer indices are free to open or to be met, or as many and the rest is simpler
 abbrev pub enough_for : ℕ → ℕ
 enough_for indices = (indices + 2) * (indices + 4)
 
--- the document that a plan unfolds to: the one that the rules give, and no other, as the laws say
+-- the document of a plan: the only one that the rules give, by the laws
 unfoldable pub document_of : PrintInputs → Plan → Document
 document_of w p = plan_document (task_document w (enough_for (2 ^ 32))) p
 
--- what printing the signature of a function does: its name, and the index of its type as the module at a module index
--- writes it
+-- the run of printing the signature of a function, by its name and the index of its type in the module with this index
 abbrev pub signature_run : {P : Type 0} → (P → ProviderInfos) → TypeInputs P → ℕ → List ℕ → ℕ → Parts → Run
 signature_run info s module_index name index =
     let w = formatter_inputs info s module_index in
     run (document_of w (signature w name index))
 
--- what printing an id does: its index as the module at a module index writes it
+-- the run of printing an id, by its index in the module with this index
 abbrev pub id_run : {P : Type 0} → (P → ProviderInfos) → TypeInputs P → ℕ → ℕ → Parts → Run
 id_run info s module_index index = run (document_of (formatter_inputs info s module_index) (id_of_index index))
 
--- printing succeeded or failed in two runs alike: with the same text, and for the same missing type or for another
--- error in both
+-- two runs both succeed, or both fail: for the same missing type, or for another error
 abbrev pub AlikeFault : Option PrintError → Option PrintError → Type 0
 AlikeFault None None = Unit {0}
 AlikeFault (Some (TypeNotFound i)) (Some (TypeNotFound j)) = i ≡ j

@@ -1,4 +1,4 @@
--- How far printing has come.
+-- Stages of printing.
 use Rattle.std.specs.Prelude.{◌≡◌, ℕ, ◌++◌, Bool, true, false, List, [], ◌∷◌, Option}
 use Rattle.std.specs.Prelude.{Some, None, take, drop, reverse, is_some, if◌then◌else◌}
 use Rattle.std.specs.String.Boundary.{IsSplitPoint}
@@ -29,93 +29,92 @@ use Rattle.pdb_type_texts.specs.Functions.{returned, further_types, types_betwee
 use Rattle.pdb_type_texts.specs.Ids.{scope}
 use Rattle.pdb_type_texts.specs.Methods.{arguments_behind}
 
--- how far printing has come: what is still to be done, the next first, the text so far, and why printing fails, where
--- it does
+-- a stage of printing: the remaining steps, the next one first; the text so far; and the failure, if there is one
 pub record Stage : Type 0 where
   pub steps : List Pending
   pub text : List ℕ
   pub failure : Option PrintError
 
--- nothing is to be done, and nothing is printed
+-- the stage before printing: no steps and no text
 abbrev pub beginning : Stage
 beginning = record { steps = []; text = []; failure = None }
 
--- this is to be done next
+-- a stage with one more step, which is the next one
 abbrev pub with_step : Pending → Stage → Stage
 with_step step s = record { steps = step ∷ s.steps; text = s.text; failure = s.failure }
 
--- these are to be printed next, one after the other
+-- a stage with these tasks as the next steps, in order
 abbrev pub with_tasks : List tasks.Task → Stage → Stage
 with_tasks [] s = s
 with_tasks (task ∷ further) s = with_step (Print task) (with_tasks further s)
 
--- these were put before what was to be done, to be printed one after the other
+-- these tasks were put before the other steps, in order
 pub record Puts (put : List tasks.Task) (old new : Stage) : Type 0 where
   pub is : new ≡ with_tasks put old
 
--- this was written
+-- a stage with more text
 abbrev pub with_text : List ℕ → Stage → Stage
 with_text more s = record { steps = s.steps; text = s.text ++ more; failure = s.failure }
 
--- printing fails
+-- a stage with a failure
 abbrev pub with_failure : PrintError → Stage → Stage
 with_failure failure s = record { steps = s.steps; text = s.text; failure = Some failure }
 
--- a failure, as the code has it
+-- the model of the code's `PrintError`
 abbrev pub failure_of : code.PrintError → PrintError
 failure_of (code_failure.TypeNotFound index) = TypeNotFound index
 failure_of (code_failure.OfError e) = OfError (error_view e)
 
--- the error that a failure is answered by, as the code has it
+-- the error of the code's `PrintError`
 abbrev pub error_of : code.PrintError → Error
 error_of (code_failure.TypeNotFound index) = PdbError (records.TypeNotFound index)
 error_of (code_failure.OfError e) = e
 
--- the failure of what failed, where something did
+-- the model of an optional `PrintError`
 abbrev pub failure_in : Option code.PrintError → Option PrintError
 failure_in None = None
 failure_in (Some failure) = Some (failure_of failure)
 
--- an index alone, or none
+-- a list with only this index, or an empty one
 abbrev pub alone : Option ℕ → List ℕ
 alone None = []
 alone (Some index) = index ∷ []
 
--- the indices that are open: those that are closed later. In an id none of those outside it is
+-- the open indices: those that a later step closes. Those around an id aren't open in it
 abbrev pub open_in : List Pending → List ℕ
 open_in [] = []
 open_in (Close index ∷ rest) = index ∷ open_in rest
 open_in (EndId outer index ∷ rest) = alone index
 open_in (other ∷ rest) = open_in rest
 
--- where in the text the targets of pointers begin that haven't ended, the innermost first
+-- the bytes of the text at which the unended targets of pointers began, the innermost first
 abbrev pub marks_in : List Pending → List ℕ
 marks_in [] = []
 marks_in (EndBuffer mark attributes ∷ rest) = mark ∷ marks_in rest
 marks_in (other ∷ rest) = marks_in rest
 
--- no number is twice among these
+-- the numbers are all different
 abbrev pub AreDistinct : List ℕ → Type 0
 AreDistinct [] = Unit {0}
 AreDistinct (index ∷ rest) = (is_among index rest ≡ false) × AreDistinct rest
 
--- a set has these numbers, each of them once
+-- a set has exactly these numbers, each of them once
 pub record IsSetOf (set : BTreeSet ℕ) (indices : List ℕ) : Type 0 where
   pub same : (q : ℕ) → contains nat_cmp set q ≡ is_among q indices
   pub distinct : AreDistinct indices
 
--- the set that is put back where an id ends has the indices that were open around it
+-- the set that is put back at the end of an id has the indices that were open around the id
 abbrev pub PutsBack : List Pending → Type 0
 PutsBack [] = Unit {0}
 PutsBack (EndId outer index ∷ rest) = IsSetOf outer (open_in rest) × PutsBack rest
 PutsBack (other ∷ rest) = PutsBack rest
 
--- a text may be cut at each of these places, at the first of them first
+-- a text may be truncated at each of these bytes, in this order
 abbrev pub MayBeCut : List ℕ → List ℕ → Type 0
 MayBeCut text [] = Unit {0}
 MayBeCut text (mark ∷ earlier) = IsSplitPoint text mark × MayBeCut (take mark text) earlier
 
--- what is printed of a task, while these indices are open
+-- the plan of a task, while these indices are open
 abbrev pub task_plan : PrintInputs → List ℕ → tasks.Task → Plan
 task_plan w inside (task.Written wording) = written (wording_text w.flags wording)
 task_plan w inside (task.Index index) = Later inside (Index index.0)
@@ -135,12 +134,12 @@ task_plan w inside (task.Elements elements levels next) =
 task_plan w inside (task.Id met index) = Later inside (Id met.keys index.0)
 task_plan w inside (task.Scope met index) = scope met.keys inside index
 
--- a run as far as printing has come, where these parts of the records have failed
+-- the run of a stage, if these parts of the records have failed
 abbrev pub stage_run : Stage → Parts → Run
 stage_run s failed = record { text = s.text; fault = s.failure; failed = failed }
 
--- the target of pointers ends that began at a byte of the text: one of two texts follows it, by what it ends in, or
--- nothing of it stays where it failed
+-- the run after the end of pointers' target, which began at this byte of the text. One of two texts follows it, by the
+-- end of its text; if printing failed, its text is removed
 abbrev pub released_by : Option PrintError → Run → ℕ → List ℕ → List ℕ → Run
 released_by (Some failure) r mark after_sigil after_other =
     record { text = take mark r.text; fault = r.fault; failed = r.failed }
@@ -148,19 +147,19 @@ released_by None r mark after_sigil after_other =
     let behind = if ends_in_sigil (drop mark r.text) then after_sigil else after_other in
     record { text = r.text ++ behind; fault = None; failed = r.failed }
 
--- an index opens, or it was open and printing fails
+-- an index opens; or it was open already, and printing fails
 abbrev pub Opens : ℕ → Stage → Stage → Bool → Type 0
 Opens index old new true = (is_among index (open_in old.steps) ≡ false) × (new ≡ with_step (Close index) old)
 Opens index old new false =
     (is_among index (open_in old.steps) ≡ true)
     × (new ≡ with_failure (OfError (Plain (CircularTypeDefinition index))) old)
 
--- an id begins, in which this index of a type is open, or none
+-- an id begins, in which only this index of a type is open, or none
 abbrev pub OpensAlone : Option ℕ → Stage → Stage → Type 0
 OpensAlone index old new = (outer : BTreeSet ℕ) × (new ≡ with_step (EndId outer index) old)
 
--- what the end of something does to a run: what is printed no longer is, where printing failed; an index that closes
--- and an id that ends do nothing to the run
+-- the run after the end of a step: EndCatch adds the note for a missing type, EndBuffer adds the pointers after their
+-- target, and the other ends change nothing
 abbrev pub ended_run : TypeFormatterFlags → Pending → Run → Run
 ended_run flags EndCatch r = caught_by r.fault r
 ended_run flags (EndBuffer mark attributes) r =
@@ -169,19 +168,19 @@ ended_run flags (EndBuffer mark attributes) r =
     (attributes_text flags Text (reverse attributes.items))
 ended_run flags other r = r
 
--- something is to be printed in a stage only where printing failed
+-- a step to be printed is skipped only if printing failed
 abbrev pub IsPassedOver : Pending → Stage → Type 0
 IsPassedOver (Print task) s = is_some s.failure ≡ true
 IsPassedOver other s = Unit {0}
 
--- the next step of a stage was taken: it is this one, and it has ended or was passed over
+-- the next step of a stage was taken: it is this one, and it has ended or was skipped
 pub record Ended (flags : TypeFormatterFlags) (old new : Stage) : Type 0 where
   pub step : Pending
   pub taken : old.steps ≡ step ∷ new.steps
   pub passed_over : IsPassedOver step old
   pub run : (failed : Parts) → stage_run new failed ≡ ended_run flags step (stage_run old failed)
 
--- what is next: something that is to be printed, or something ended, or nothing is left
+-- the next action: something is printed, or something ends, or nothing is left
 abbrev pub Takes : TypeFormatterFlags → Stage → Next → Stage → Type 0
 Takes flags old (next.Print task) new = (old ≡ with_step (Print task) new) × (new.failure ≡ None)
 Takes flags old next.Ended new = Ended flags old new

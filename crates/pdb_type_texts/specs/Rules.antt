@@ -1,5 +1,5 @@
--- The rules by which types and ids are printed, each of them one step deep.
--- The list `inside` has the indices of types that are open.
+-- The rules for printing types and ids, each of them one step deep. The list `inside` has the indices of types that are
+-- open.
 use Rattle.std.specs.Prelude.{ℕ, ◌++◌, Bool, false, List, [], ◌∷◌, Some, codes, if◌then◌else◌}
 use Rattle.std.specs.BTreeSet.{insert_key}
 use Rattle.std.specs.Ordering.{nat_cmp}
@@ -22,7 +22,7 @@ use Rattle.pdb_type_texts.specs.Functions.{unless_left_out, returned, returned_i
 use Rattle.pdb_type_texts.specs.Methods.{method_arguments}
 use Rattle.pdb_type_texts.specs.Ids.{id_by_kind}
 
--- a pointer to a method: what it returns, the class and the pointers in parentheses, and its arguments
+-- a pointer to a method: its return type, the class and the pointers in parentheses, and its arguments
 abbrev pub pointers_to_method : PrintInputs → List Attribute → List ℕ → MemberFunctionType → Plan
 pointers_to_method w attributes inside m =
     returned inside (unless_left_out m.is_constructor (Some m.return_type))
@@ -32,7 +32,7 @@ pointers_to_method w attributes inside m =
     ▸ written (codes ")")
     ▸ Later inside (MethodArguments m TypeName)
 
--- a pointer to a function: what it returns, the pointers in parentheses, and its arguments in parentheses
+-- a pointer to a function: its return type, the pointers in parentheses, and its arguments in parentheses
 abbrev pub pointers_to_function : PrintInputs → List Attribute → List ℕ → ProcedureType → Plan
 pointers_to_function w attributes inside p =
     returned inside (unless_left_out p.is_constructor p.return_type)
@@ -51,13 +51,13 @@ chain_end w attributes inside other =
     (attributes_text w.flags Sigil attributes)
     (attributes_text w.flags Text attributes)
 
--- what follows a modifier in a chain of pointers: a pointer goes on with the chain, all else ends it
+-- the plan after a modifier in a chain of pointers: a pointer continues the chain, anything else ends it
 abbrev pub behind_modifier : PrintInputs → List Attribute → List ℕ → TypeData → Plan
 behind_modifier w attributes inside (Pointer p) =
     Later inside (Chain (attribute_of p false ∷ attributes) p.underlying_type.0)
 behind_modifier w attributes inside other = chain_end w attributes inside other
 
--- what follows a pointer in a chain of pointers: a pointer or a modifier goes on with the chain, all else ends it
+-- the plan after a pointer in a chain of pointers: a pointer or a modifier continues the chain, anything else ends it
 abbrev pub behind_pointer : PrintInputs → List Attribute → List ℕ → TypeData → Plan
 behind_pointer w attributes inside (Pointer p) =
     Later inside (Chain (attribute_of p false ∷ attributes) p.underlying_type.0)
@@ -65,8 +65,8 @@ behind_pointer w attributes inside (Modifier m) =
     Later inside (BehindModifier (with_target m.constant attributes) m.underlying_type.0)
 behind_pointer w attributes inside other = chain_end w attributes inside other
 
--- an element of an array: an array goes on with one more level, and all else is the base, whose size is asked before it
--- is printed
+-- the plan for an element of an array: an array adds one more level; anything else is the base, whose size is read
+-- before it is printed
 abbrev pub element : PrintInputs → List ℕ → List ℕ → List ℕ → ℕ → TypeData → Plan
 element w inside elements levels index (Array a) =
     Later inside (Elements (insert_key nat_cmp elements index) (levels ++ a.first ∷ []) a.element_type.0)
@@ -101,7 +101,7 @@ by_kind w inside (Array a) = Later inside (Elements [] (a.first ∷ []) a.elemen
 by_kind w inside (Modifier m) = Later inside (Modified m.constant m.underlying_type.0)
 by_kind w inside (Other kind) = written (unhandled_text kind)
 
--- what the rule of a task gives
+-- the plan by the rule of a task
 abbrev pub rule : PrintInputs → List ℕ → Task → Plan
 rule w inside (Index index) =
     on_printed (w.read index) (λ type. opened inside index (Later (index ∷ inside) (OfType type)))

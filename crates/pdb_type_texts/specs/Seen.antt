@@ -10,24 +10,24 @@ use Rattle.pdb_errors.specs.declared.error.Error.TheVariants as error
 use Rattle.pdb_type_texts.specs.declared.seen.SeenError.{SeenError}
 use Rattle.pdb_type_texts.specs.declared.seen.SeenError.TheVariants.{Already, OutOfMemory}
 
--- a set has the index of this number
+-- whether a set has the index with this number
 abbrev pub has : BTreeSet TypeIndex → ℕ → Bool
 has set q = contains (λ a b. nat_cmp a.0 b.0) set (record { 0 = q })
 
--- these indices have one of this number
+-- whether one of these indices has this number
 abbrev pub holds : List TypeIndex → ℕ → Bool
 holds indices q = list_any (λ index. q == index.0) indices
 
--- a set had the index of this number before a level put these in
+-- whether a set had the index with this number before a level inserted these
 abbrev pub base : BTreeSet TypeIndex → List TypeIndex → ℕ → Bool
 base set inserted q = has set q && not (holds inserted q)
 
--- the error that goes with it
+-- the error for a refused index
 abbrev pub error_of : SeenError → Error
 error_of (Already seen) = CircularTypeDefinition seen.0.0
 error_of OutOfMemory = error.OutOfMemory
 
--- an index was refused: it was there before, or memory ran out
+-- an index was refused: it was there before, or an allocation failed
 abbrev pub IsRefusal : SeenError → TypeIndex → Bool → Type 0
 IsRefusal (Already seen) index there = (seen.0 ≡ index) × (there ≡ true)
 IsRefusal OutOfMemory index there = there ≡ false

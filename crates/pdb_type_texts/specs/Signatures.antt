@@ -8,7 +8,7 @@ use Rattle.pdb_type_texts.specs.declared.tasks.MethodForm.TheVariants.{Signature
 use Rattle.pdb_type_texts.specs.Plans.{Index, MethodArguments, Plan, Later, ◌▸◌, written, on_read}
 use Rattle.pdb_type_texts.specs.Functions.{returned_if_wanted, function_arguments}
 
--- the signature of a function with this name and type; where the type is no function's, the name as it is
+-- the signature of a function with this name and type; if the type isn't a function's, the name alone
 abbrev pub signature_by_type : PrintInputs → List ℕ → List ℕ → TypeData → Plan
 signature_by_type w name inside (MemberFunction m) =
     written (static_text w.flags m.this_pointer_type)
@@ -21,7 +21,7 @@ signature_by_type w name inside (Procedure p) =
     ▸ function_arguments w inside p.argument_list
 signature_by_type w name inside other = written name
 
--- the signature of a function with this name and the type of this index; index 0 is no type, and then the name stands
+-- the signature of a function with this name and the type of this index; index 0 means no type, and then it is the name
 -- alone
 abbrev pub signature : PrintInputs → List ℕ → ℕ → Plan
 signature w name index =

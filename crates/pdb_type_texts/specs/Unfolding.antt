@@ -1,4 +1,4 @@
--- Which document a plan unfolds to, and what printing it does.
+-- How plans unfold to documents, and the runs of these.
 use Rattle.std.specs.Prelude.{◌≡◌, ℕ, List}
 use Rattle.pdb_types.specs.FailedParts.{Parts}
 use Rattle.pdb_type_texts.specs.Documents.{Document, Run, run}
@@ -7,7 +7,7 @@ use Rattle.pdb_type_texts.specs.PrintInputs.{PrintInputs}
 use Rattle.pdb_type_texts.specs.Plans.{Task, Plan, Done, Later, Seq, Buffered, Catch}
 use Rattle.pdb_type_texts.specs.Rules.{rule}
 
--- a plan unfolds to a document: each task in it by its rule, and so on until no task is left
+-- a plan unfolds to a document: each task is replaced by its rule until no task is left
 pub data Unfolds (w : PrintInputs) : Plan → Document → Type 0 where
   done : {d : Document} → Unfolds w (Done d) d
   later : {inside : List ℕ} {task : Task} {d : Document} → Unfolds w (rule w inside task) d
@@ -23,6 +23,6 @@ pub record HasOneUnfolding (w : PrintInputs) (p : Plan) : Type 0 where
   pub unfolds : Unfolds w p unfolded
   pub only : (other : Document) → Unfolds w p other → other ≡ unfolded
 
--- printing a plan does this, whatever document it unfolds to, where these parts of the records failed before
+-- printing a plan has this run, whatever document it unfolds to, if these parts of the records failed before
 abbrev pub Runs : PrintInputs → Plan → Parts → Run → Type 0
 Runs w p failed r = (d : Document) → Unfolds w p d → run d failed ≡ r

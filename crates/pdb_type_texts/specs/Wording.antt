@@ -1,4 +1,4 @@
--- The words and names that types are printed with.
+-- The words and names in printed types.
 use Rattle.std.specs.Prelude.{ℕ, ◌==◌, ◌/◌, ◌++◌, false, List, [], ◌∷◌, reverse}
 use Rattle.std.specs.Prelude.{Option, Some, None, codes, if◌then◌else◌}
 use Rattle.std.specs.Fmt.{decimal, digits}
@@ -22,19 +22,19 @@ use Rattle.pdb_type_texts.specs.Attributes.{attributes_text}
 abbrev pub hexadecimal : ℕ → List ℕ
 hexadecimal n = codes "0x" ++ digits 16 false n
 
--- the note of a type or an id that is missing
+-- the note for a missing type or id
 abbrev pub missing_text : ℕ → List ℕ
 missing_text index = codes "<missing type " ++ hexadecimal index ++ codes ">"
 
--- the note of a type or an id of a kind that the reader of the records doesn't know
+-- the note for a type or an id of a kind that isn't read
 abbrev pub unimplemented_text : ℕ → List ℕ
 unimplemented_text kind = codes "<unimplemented type kind " ++ hexadecimal kind ++ codes ">"
 
--- the note of a type of a kind that is read and not printed
+-- the note for a type of a kind that is read but not printed
 abbrev pub unhandled_text : List ℕ → List ℕ
 unhandled_text kind = codes "unhandled type /* " ++ kind ++ codes " */"
 
--- what stands for a scope of a kind that is read and not printed
+-- the text for a scope of a kind that is read but not printed
 abbrev pub unhandled_scope_text : List ℕ → List ℕ
 unhandled_scope_text kind = codes "<unhandled id scope " ++ kind ++ codes ">::"
 
@@ -44,30 +44,30 @@ class_word class.Class = codes "class "
 class_word class.Interface = codes "interface "
 class_word class.Struct = codes "struct "
 
--- a name as text, with the word that it was declared with before it, unless names stand alone
+-- a name as text, with the word of its declaration before it, unless only names are printed
 abbrev pub declared_text : TypeFormatterFlags → List ℕ → List ℕ → List ℕ
 declared_text flags word bytes = if with_names_alone flags then lossy bytes else word ++ lossy bytes
 
--- the name of a function, or a note where it is empty
+-- the name of a function, or a note if it is empty
 abbrev pub function_name : List ℕ → List ℕ
 function_name [] = codes "<name omitted>"
 function_name (first ∷ rest) = first ∷ rest
 
--- what stands before a method: `static` where it has no `this`, unless that word is left out
+-- the text before a method: `static` if it has no `this`, unless the flags leave out that word
 abbrev pub static_text : TypeFormatterFlags → Option TypeIndex → List ℕ
 static_text flags None = if without_static flags then [] else codes "static "
 static_text flags (Some this) = []
 
--- what stands between two arguments
+-- the text between two arguments
 abbrev pub comma : TypeFormatterFlags → List ℕ
 comma flags = if with_space_after_comma flags then codes ", " else codes ","
 
--- the size of what an array of several levels has at the next level, or its base has
+-- the size of an element at this level of an array: that of the next level, or of the base
 abbrev pub next_size : List ℕ → ℕ → ℕ
 next_size [] base = base
 next_size (level ∷ inner) base = level
 
--- how many elements take so many bytes, in brackets; nothing in them where an element takes none
+-- the number of elements in this many bytes, in brackets; empty brackets if the size of an element is 0
 abbrev pub dimension_text : ℕ → ℕ → List ℕ
 dimension_text bytes element = codes "[" ++ (if element == 0 then [] else decimal (bytes / element)) ++ codes "]"
 
@@ -76,7 +76,7 @@ abbrev pub dimensions_text : List ℕ → ℕ → List ℕ
 dimensions_text [] base = []
 dimensions_text (level ∷ inner) base = dimension_text level (next_size inner base) ++ dimensions_text inner base
 
--- a piece of a signature that is known as it stands
+-- the text of a fixed piece of a signature
 abbrev pub wording_text : TypeFormatterFlags → Wording → List ℕ
 wording_text flags (Text known) = known.now
 wording_text flags (MissingType index) = missing_text index

@@ -1,4 +1,4 @@
-//! The stars, ampersands and `const` of a chain of pointers, as they are printed.
+//! Prints the stars, ampersands and `const` of a chain of pointers.
 
 ghost use Rattle.std.specs.Prelude.{◌≡◌, ◌++◌, OnOk, reverse, string_bytes};
 ghost use Rattle.pdb_type_texts.specs.Attributes.{attribute_of, with_target, sigil, space_before_sigil};
@@ -12,18 +12,18 @@ use std::alloc::AllocError;
 /// One pointer of a chain of pointers.
 #[derive(Clone, Copy)]
 pub struct Attribute {
-    /// How it points.
+    /// Whether it is a pointer or a kind of reference.
     pub points: PointerMode,
-    /// Whether it is constant itself.
+    /// Whether the pointer itself is constant.
     pub constant_pointer: bool,
-    /// Whether what it points to is constant.
+    /// Whether its target is constant.
     pub constant_target: bool,
 }
 
-/// What stands just before a pointer of a chain.
+/// The text just before a pointer of a chain.
 #[derive(Clone, Copy)]
 pub enum Predecessor {
-    /// The opening of pointers to functions: a parenthesis, and after it the class of a method's.
+    /// The beginning of pointers to functions: a parenthesis, and after it the class of a method.
     Opening,
     /// The sign of a pointer or a reference.
     Sigil,
@@ -31,8 +31,7 @@ pub enum Predecessor {
     Text,
 }
 
-/// A pointer, before it is known what it points to: constant as it says itself, or where `const`
-/// stands before it.
+/// A pointer whose target isn't known yet. It is constant if its record says so, or if `const` is before it.
 pub fn attribute_of(pointer: &PointerType, constant: bool) -> Attribute
     ensures { result ≡ attribute_of pointer.now constant }
 {
@@ -43,7 +42,7 @@ pub fn attribute_of(pointer: &PointerType, constant: bool) -> Attribute
     }
 }
 
-/// Notes of the pointer collected last whether it points to something constant.
+/// Sets whether the target of the last collected pointer is constant.
 pub fn point_to(attributes: &mut Vec<Attribute>, constant: bool)
     ensures { reverse attributes.new.items ≡ with_target constant (reverse attributes.old.items) }
 {
@@ -52,8 +51,7 @@ pub fn point_to(attributes: &mut Vec<Attribute>, constant: bool)
     }
 }
 
-/// Appends the pointers of a chain, the last collected first, after what stands just before them.
-/// Answers `AllocError` where memory runs out.
+/// Appends the pointers of a chain, the last collected first. `predecessor` is the text just before them.
 pub fn write_attributes(
     text: &mut String,
     flags: TypeFormatterFlags,
@@ -72,7 +70,7 @@ pub fn write_attributes(
     Ok(())
 }
 
-// What a pointer ends in: its sign, or `const`.
+// The end of a pointer: its sign, or `const`.
 fn end_of(attribute: &Attribute) -> Predecessor
     ensures { result ≡ end_of attribute.now }
 {
@@ -83,7 +81,7 @@ fn end_of(attribute: &Attribute) -> Predecessor
     }
 }
 
-// Appends one pointer: what stands before its sign, the sign, and `const` where it is constant.
+// Appends one pointer: the text before its sign, the sign, and `const` if it is constant.
 fn write_attribute(
     text: &mut String,
     flags: TypeFormatterFlags,
@@ -101,8 +99,8 @@ fn write_attribute(
     Ok(())
 }
 
-// Appends what stands before a sign: `const` where the target is constant, and the space that is
-// wanted, unless the opening or a sign is just before it.
+// Appends the text before a sign: `const` if the target is constant, and the space that the flags want, unless the
+// opening or another sign is just before it.
 fn write_before_sigil(
     text: &mut String,
     flags: TypeFormatterFlags,
@@ -121,7 +119,7 @@ fn write_before_sigil(
     text.push_str(space_before_sigil(flags))
 }
 
-// The space before a sign, where one is wanted.
+// The space before a sign, if the flags want one.
 fn space_before_sigil(flags: TypeFormatterFlags) -> &'static str
     ensures { result.now ≡ space_before_sigil flags }
 {

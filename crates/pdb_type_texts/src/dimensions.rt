@@ -1,12 +1,12 @@
-//! The dimensions of an array, in brackets after its base.
+//! Prints the dimensions of an array in brackets.
 
 ghost use Rattle.std.specs.Prelude.{◌≡◌, ◌++◌, OnOk, string_bytes};
 ghost use Rattle.pdb_type_texts.specs.Wording.{next_size, dimension_text, dimensions_text};
 
 use std::alloc::AllocError;
 
-// Appends the dimensions of an array, by the sizes of its levels and of its base.
-// Answers `AllocError` where memory runs out.
+// Appends the dimensions of an array, by the sizes in bytes of its levels and of its base. `AllocError` if memory runs
+// out.
 pub fn write_dimensions(text: &mut String, levels: &[u32], base: u64) -> Result<(), AllocError>
     ensures { OnOk result (string_bytes text.new ≡ string_bytes text.old ++ dimensions_text levels.now base) }
 {
@@ -18,7 +18,7 @@ pub fn write_dimensions(text: &mut String, levels: &[u32], base: u64) -> Result<
     Ok(())
 }
 
-// The size of what an array of several levels has at the next level, or its base has.
+// The size of the next level of an array, or of its base.
 fn next_size(inner: &[u32], base: u64) -> u64
     ensures { result ≡ next_size inner.now base }
 {
@@ -28,8 +28,7 @@ fn next_size(inner: &[u32], base: u64) -> u64
     }
 }
 
-// Appends how many elements take so many bytes, in brackets, and nothing in them where an element
-// takes none.
+// Appends the number of elements in `bytes` bytes, in brackets. They are empty if an element has size 0.
 fn write_dimension(text: &mut String, bytes: u64, element: u64) -> Result<(), AllocError>
     ensures { OnOk result (string_bytes text.new ≡ string_bytes text.old ++ dimension_text bytes element) }
 {

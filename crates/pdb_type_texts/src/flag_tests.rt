@@ -1,4 +1,4 @@
-//! What the flags of a formatter say of how signatures are printed, one test for each flag.
+//! Tests of the formatter's flags, one for each flag.
 
 ghost use Rattle.std.specs.Prelude.{◌≡◌};
 ghost use Rattle.pdb_type_texts.specs.FlagTests.{without_return_type, without_static, with_space_after_comma};
@@ -7,7 +7,7 @@ ghost use Rattle.pdb_type_texts.specs.FlagTests.{with_space_before_pointer, with
 use bitflags::Flags;
 use pdb_types::TypeFormatterFlags;
 
-/// Whether functions are printed without the type that they return.
+/// Whether functions are printed without their return type.
 pub fn without_return_type(flags: TypeFormatterFlags) -> bool
     ensures { result ≡ without_return_type flags }
 {
@@ -21,21 +21,21 @@ pub fn without_static(flags: TypeFormatterFlags) -> bool
     flags.intersects(TypeFormatterFlags::NO_MEMBER_FUNCTION_STATIC)
 }
 
-/// Whether a space stands after each comma of a list of arguments.
+/// Whether a space is printed after each comma of an argument list.
 pub fn with_space_after_comma(flags: TypeFormatterFlags) -> bool
     ensures { result ≡ with_space_after_comma flags }
 {
     flags.intersects(TypeFormatterFlags::SPACE_AFTER_COMMA)
 }
 
-/// Whether a space stands before each `*` and `&`.
+/// Whether a space is printed before each `*` and `&`.
 pub fn with_space_before_pointer(flags: TypeFormatterFlags) -> bool
     ensures { result ≡ with_space_before_pointer flags }
 {
     flags.intersects(TypeFormatterFlags::SPACE_BEFORE_POINTER)
 }
 
-/// Whether of a class, a union or an enumeration only the name is printed.
+/// Whether classes, unions and enumerations are printed without `class`, `union` or `enum`.
 pub fn with_names_alone(flags: TypeFormatterFlags) -> bool
     ensures { result ≡ with_names_alone flags }
 {

@@ -1,8 +1,8 @@
-//! What types, functions and ids are printed as: definitions, laws, pieces of text, and steps of printing.
+//! Defines the printed text of types, functions and ids, with laws, pieces of text, and steps of printing.
 //!
-//! A document says what is to be printed. The specs define the document of each type, signature and id, and
-//! [`signature_laws`] says what follows. The functions write the pieces of text that documents are made of, and
-//! [`progress`] holds what is still to be done, so that no depth of a document is a depth of calls.
+//! A document describes a text to be printed. The specs define the document of each type, signature and id, and
+//! [`signature_laws`] has laws on them. The functions write the pieces of text of which documents consist. [`progress`]
+//! holds the steps that are still to be done, so that deep documents don't need deep recursion.
 #![tactic(auto)]
 
 pub mod attributes;

@@ -1,16 +1,16 @@
-//! What a namespace is called in print, also one that has no name.
+//! The printed names of namespaces, also of anonymous ones.
 
 ghost use Rattle.std.specs.Prelude.{◌≡◌};
 ghost use Rattle.pdb_type_texts.specs.Namespaces.{is_hash, is_anonymous, namespace_text};
 
-// One hexadecimal digit or more, which may have `+` before them, and nothing else; a number of 32 bits.
+// Whether a text is a 32-bit number in hexadecimal digits. A `+` may come before them.
 fn is_hash(text: &str) -> bool
     ensures { result ≡ is_hash text.now }
 {
     u32::from_str_radix(text, 16).is_ok()
 }
 
-// Whether the compiler made this name for a namespace that has none.
+// Whether this name is one that the compiler made for an anonymous namespace.
 fn is_anonymous(name: &str) -> bool
     ensures { result ≡ is_anonymous name.now }
 {
@@ -20,7 +20,7 @@ fn is_anonymous(name: &str) -> bool
     }
 }
 
-// What a namespace is called in print.
+// The printed name of a namespace.
 pub fn namespace_name(name: &str) -> &str
     ensures { result.now ≡ namespace_text name.now }
 {

@@ -1,4 +1,4 @@
-//! The names of the types that the compiler brings, and pointers to them.
+//! The names of primitive types, and of pointers to them.
 
 ghost use Rattle.std.specs.Prelude.{◌≡◌, ◌++◌, OnOk, string_bytes};
 ghost use Rattle.pdb_type_texts.specs.PrimitiveNames.{primitive_name, primitive_text, pointer_to, constant_or_not};
@@ -8,7 +8,7 @@ use pdb_records::{PrimitiveKind, PrimitiveType};
 use pdb_types::TypeFormatterFlags;
 use std::alloc::AllocError;
 
-// The name of a type that the compiler brings.
+// The name of a primitive type.
 pub fn primitive_name(kind: PrimitiveKind) -> &'static str
     ensures { result.now ≡ primitive_name kind }
 {
@@ -59,9 +59,8 @@ pub fn primitive_name(kind: PrimitiveKind) -> &'static str
     }
 }
 
-// Appends a type that the compiler brings, constant or not; where it is a pointer, it is the value
-// that is constant.
-// Answers `AllocError` where memory runs out.
+// Appends a primitive type or a pointer to one. `constant` applies to the primitive type, not to the pointer.
+// `AllocError` if memory runs out.
 pub fn write_primitive(
     text: &mut String,
     flags: TypeFormatterFlags,
@@ -79,7 +78,7 @@ pub fn write_primitive(
     }
 }
 
-// Appends a pointer to a named type, where the named type is constant or not.
+// Appends a pointer to a named type, which may be constant.
 fn write_pointer_to(
     text: &mut String,
     flags: TypeFormatterFlags,
@@ -99,7 +98,7 @@ fn write_pointer_to(
     })
 }
 
-// Appends a named type, constant or not.
+// Appends a named type, with `const` if it is constant.
 fn write_constant_or_not(text: &mut String, named: &str, constant: bool) -> Result<(), AllocError>
     ensures { OnOk result (string_bytes text.new ≡ string_bytes text.old ++ constant_or_not named.now constant) }
 {

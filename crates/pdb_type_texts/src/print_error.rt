@@ -1,4 +1,4 @@
-//! Why printing fails: a type that is missing, for which a note may stand, or another error.
+//! `PrintError`: why printing fails. A missing type may be replaced by a note.
 
 ghost use Rattle.std.specs.Prelude.{◌≡◌};
 
@@ -7,9 +7,9 @@ use pdb_errors::Error;
 /// Why printing fails.
 #[derive(Drop)]
 pub enum PrintError {
-    /// No type has this number. Where it is part of another type, a note stands for it.
+    /// No type has this number. If it is a part of another type, a note is printed in its place.
     TypeNotFound(u32),
-    /// This error.
+    /// Printing fails with this error.
     OfError(Error),
 }
 

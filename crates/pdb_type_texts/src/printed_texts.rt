@@ -1,4 +1,4 @@
-//! What a call that prints answers: the printed text, or the error before which it ends.
+//! Results of printing: the text, or the error before which it ends.
 
 ghost use Rattle.std.specs.Prelude.{◌≡◌, ◌≢◌, false, string_bytes};
 ghost use Rattle.pdb_errors.specs.declared.error.Error.TheVariants.{OutOfMemory};
@@ -11,7 +11,7 @@ use crate::print_error::PrintError;
 use pdb_errors::{Error, Result};
 use std::fmt;
 
-/// What printing came to: the text, and why it failed where it did.
+/// The result of printing: the text, and why printing failed, if it did.
 #[derive(Drop)]
 pub struct Printed {
     pub text: String,
@@ -28,8 +28,8 @@ fn ran_out_of_memory(error: &Error) -> bool
     }
 }
 
-// Writes the text that was printed before an error, except where memory runs out, and answers that error, or that
-// the writer refused.
+// Writes the text that was printed before an error, unless memory ran out. Returns that error, or that the writer
+// refused the text.
 fn write_before<W: fmt::Write>(writer: &mut W, text: &str, error: Error) -> Error
     ensures answer { is_format_error result ≡ false → result ≡ error }
     ensures written { result ≢ OutOfMemory → is_format_error result ≡ false
@@ -45,7 +45,7 @@ fn write_before<W: fmt::Write>(writer: &mut W, text: &str, error: Error) -> Erro
     }
 }
 
-/// What was printed, or why printing failed.
+/// The printed text, or the error of printing.
 pub fn printed_text(printed: Printed) -> Result<String>
     ensures { (r : Run) (failed : Parts)
         → r ≡ record { text = string_bytes printed.text; fault = failure_in printed.failure; failed = failed }
@@ -58,7 +58,7 @@ pub fn printed_text(printed: Printed) -> Result<String>
     }
 }
 
-/// Writes what was printed.
+/// Writes the printed text to a writer. If printing failed, writes the text before the error, and returns the error.
 pub fn write_printed<W: fmt::Write>(writer: &mut W, printed: Printed) -> Result<()>
     ensures { (r : Run) (failed : Parts)
         → r ≡ record { text = string_bytes printed.text; fault = failure_in printed.failure; failed = failed }

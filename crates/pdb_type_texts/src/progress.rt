@@ -1,4 +1,4 @@
-//! How far printing has come: the steps that are still to be done, and the text so far.
+//! `Progress`: the state of printing: the steps that are still to be done, and the text so far.
 
 ghost use Rattle.std.specs.Prelude.{◌≡◌, ◌++◌, ℕ, true, false, [], ◌∷◌, List, None, length};
 ghost use Rattle.std.specs.Prelude.{reverse, take, drop, string_bytes, IfOk, OnOk, is_some};
@@ -23,18 +23,17 @@ use std::collections::BTreeSet;
 use std::marker::Model;
 use std::mem;
 
-/// How many steps there is room for at first.
+/// The first capacity for steps.
 const STEPS_AT_FIRST: usize = 14;
 
-/// How far printing has come: what is still to be done, and the text so far.
+/// The state of printing: the steps that are still to be done, and the text so far.
 ///
-/// Whatever is printed within something else is a step of its own, so that no depth of the records is a
-/// depth of calls.
+/// Each type inside another one is a step of its own. So deep records don't need deep recursion.
 #[derive(Drop)]
 pub struct Progress<'s> {
-    // What is still to be done; the next step is the last.
+    // The steps that are still to be done. The next step is the last one.
     steps: Vec<Pending<'s>>,
-    // The indices of types that are open. Each of them has a step that closes it.
+    // The indices of types that are being printed. Each of them has a step that closes it.
     open_indices: BTreeSet<u32>,
     text: String,
     failure: Option<PrintError>,
@@ -60,19 +59,19 @@ impl<'s> Model for Progress<'s> {
     } };
 }
 
-/// What is next in printing.
+/// What the next step is.
 #[derive(Drop)]
 pub enum Next<'s> {
-    /// This is to be printed.
+    /// Print this task.
     Print(Task<'s>),
-    /// Something ended, or was passed over since printing failed.
+    /// A task ended, or was skipped because printing has failed.
     Ended,
-    /// Nothing is left.
+    /// No step is left.
     Finished,
 }
 
 impl<'s> Progress<'s> {
-    /// Nothing is to be done, and nothing is printed. There is room for some steps already.
+    /// An empty state, with capacity for some steps.
     pub fn new(alloc: Global) -> Result<Self, AllocError>
         ensures { IfOk result (λ progress. progress ≡ beginning) }
     {
@@ -84,7 +83,7 @@ impl<'s> Progress<'s> {
         })
     }
 
-    /// What printing came to.
+    /// The result of printing.
     pub fn into_printed(self) -> Printed
         ensures text { string_bytes result.text ≡ self.entry.text }
         ensures failure { failure_in result.failure ≡ self.entry.failure }
@@ -95,12 +94,12 @@ impl<'s> Progress<'s> {
         }
     }
 
-    /// Where memory comes from.
+    /// The allocator.
     pub fn allocator(&self) -> Global {
         *self.steps.allocator()
     }
 
-    /// This is printed next, before what was next so far.
+    /// Makes a task the next one.
     pub fn push(&mut self, task: Task<'s>) -> Result<(), AllocError>
         ensures { OnOk result (self.new ≡ with_step (Pending.Print task.entry) self.old) }
     {
@@ -108,7 +107,7 @@ impl<'s> Progress<'s> {
         Ok(())
     }
 
-    /// These two are printed next, one after the other, before what was next so far.
+    /// Makes two tasks the next ones, in this order.
     pub fn push2(&mut self, first: Task<'s>, second: Task<'s>) -> Result<(), AllocError>
         ensures { OnOk result (Puts (first.entry ∷ second.entry ∷ []) self.old self.new) }
     {
@@ -116,7 +115,7 @@ impl<'s> Progress<'s> {
         self.push(first)
     }
 
-    /// The same of three.
+    /// Makes three tasks the next ones, in this order.
     pub fn push3(
         &mut self,
         first: Task<'s>,
@@ -129,7 +128,7 @@ impl<'s> Progress<'s> {
         self.push(first)
     }
 
-    /// The same of four.
+    /// Makes four tasks the next ones, in this order.
     pub fn push4(
         &mut self,
         first: Task<'s>,
@@ -144,7 +143,7 @@ impl<'s> Progress<'s> {
         self.push(first)
     }
 
-    /// The same of six.
+    /// Makes six tasks the next ones, in this order.
     pub fn push6(
         &mut self,
         first: Task<'s>,
@@ -161,15 +160,15 @@ impl<'s> Progress<'s> {
         self.push2(first, second)
     }
 
-    /// Printing fails.
+    /// Makes printing fail.
     pub fn fail(&mut self, failure: PrintError)
         ensures { self.new ≡ with_failure (failure_of failure) self.old }
     {
         self.failure = Some(failure);
     }
 
-    /// Opens an index, until what is next now is next again. Answers whether it could: where it is open
-    /// already, printing fails.
+    /// Opens an index until the current next step is reached again. Returns whether it could be opened. If it is
+    /// already open, printing fails.
     pub fn open(&mut self, index: u32) -> Result<bool, AllocError>
         ensures { IfOk result (λ opened. Opens index self.old self.new opened) }
     {
@@ -186,7 +185,7 @@ impl<'s> Progress<'s> {
         }
     }
 
-    /// An id begins: until what is next now is next again, this index alone is open, or none.
+    /// Begins an id. Until the current next step is reached again, only this index is open, or none.
     pub fn open_alone(&mut self, index: Option<u32>) -> Result<(), AllocError>
         ensures { OnOk result (OpensAlone index self.old self.new) }
     {
@@ -205,8 +204,8 @@ impl<'s> Progress<'s> {
         }
     }
 
-    /// A type begins that may be part of another one: where it is missing something, a note follows what
-    /// was printed of it.
+    /// Begins a type that may be part of another one. If a type in it is missing, a note is printed after its text so
+    /// far.
     pub fn catch(&mut self) -> Result<(), AllocError>
         ensures { OnOk result (self.new ≡ with_step Pending.EndCatch self.old) }
     {
@@ -214,7 +213,7 @@ impl<'s> Progress<'s> {
         Ok(())
     }
 
-    /// The target of these pointers begins, which follow it; where it fails, nothing of it stays.
+    /// Begins the target of these pointers, which are printed after it. If the target fails, its text is removed.
     pub fn hold_back(&mut self, attributes: Vec<Attribute>) -> Result<(), AllocError>
         ensures { OnOk result (self.new ≡ with_step (Pending.EndBuffer (length self.old.text) attributes) self.old) }
     {
@@ -241,7 +240,7 @@ impl<'s> Progress<'s> {
         }
     }
 
-    /// Takes the next step. Of what only ends, it is done with that; the rest is answered to be printed.
+    /// Takes the next step. A step that only ends something is done here; a task is returned to be printed.
     pub fn next(&mut self, flags: TypeFormatterFlags) -> Result<Next<'s>, AllocError>
         ensures { IfOk result (λ next. Takes flags self.old next self.new) }
     {
@@ -280,7 +279,7 @@ impl<'s> Progress<'s> {
     }
 }
 
-// A type ends: where one was missing in it, a note follows what was printed.
+// Ends a type. If a type in it was missing, a note is printed after its text so far.
 fn end_catch(text: &mut String, failure: &mut Option<PrintError>) -> Result<(), AllocError>
     ensures cut { OnOk result ((marks : List ℕ) → MayBeCut (string_bytes text.old) marks
         → MayBeCut (string_bytes text.new) marks) }
@@ -296,7 +295,7 @@ fn end_catch(text: &mut String, failure: &mut Option<PrintError>) -> Result<(), 
     Ok(())
 }
 
-// Whether a text ends in `*` or `&`, of what stands from a byte on.
+// Whether the text from a byte on ends in `*` or `&`.
 fn has_sigil_at_end(text: &str, mark: usize) -> bool
     ensures { result ≡ ends_in_sigil (drop mark text.now) }
 {
@@ -308,7 +307,7 @@ fn has_sigil_at_end(text: &str, mark: usize) -> bool
     last == b'*' || last == b'&'
 }
 
-// The target of pointers ends: they follow it, or nothing of it stays where it failed.
+// Ends the target of pointers. They are printed after it; or, if it failed, its text is removed.
 fn end_buffer(
     text: &mut String,
     failure: &Option<PrintError>,

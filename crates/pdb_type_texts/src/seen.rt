@@ -1,4 +1,4 @@
-//! Sets of the indices that are open, level by level; an index that is put in twice is refused.
+//! `Seen`: sets of open indices, level by level. An index that is inserted twice is refused.
 
 ghost use Rattle.std.specs.Prelude.{◌≡◌, ℕ, Bool, false, not, ◌&&◌, ◌||◌, ◌==◌};
 ghost use Rattle.std.specs.Prelude.{[], ◌∷◌, ◌++◌, OnOk, OnErr, IfOk, IfErr};
@@ -23,10 +23,10 @@ impl fmt::Debug for AlreadySeenError {
     }
 }
 
-/// Why an index was not put in.
+/// Why an index was not inserted.
 #[derive(Debug, Clone, Copy)]
 pub enum SeenError {
-    /// It was there before.
+    /// The index is already in the set.
     Already(AlreadySeenError),
     /// Memory ran out.
     OutOfMemory,
@@ -65,12 +65,12 @@ impl From<SeenError> for Error {
     }
 }
 
-/// What a level put into a set, and how it is taken out again.
+/// The indices that a level inserted into a set, and how they are removed again.
 pub trait Inserted {
-    /// Whether an index of this number was put in.
+    /// Whether an index with this number was inserted.
     ghost holds: { Self → ℕ → Bool };
 
-    /// Takes out what was put in.
+    /// Removes what was inserted.
     fn undo(self, set: &mut BTreeSet<TypeIndex>)
         ensures { (q : ℕ) → has set.new q ≡ (has set.old q && not (holds self q)) };
 }
@@ -87,7 +87,7 @@ impl Inserted for Vec<TypeIndex> {
     }
 }
 
-// Puts an index into a set, and into what a level has put in. Where it is refused both are as they were.
+// Inserts an index into a set, and into a level's own list. If it is refused, both stay as they were.
 fn put(
     set: &mut BTreeSet<TypeIndex>,
     inserted: &mut Vec<TypeIndex>,
@@ -114,11 +114,11 @@ fn put(
     }
 }
 
-/// A level of indices that are open: those that it puts into a set are taken out when it is dropped.
+/// A level of open indices. The indices that it inserts into a set are removed when it is dropped.
 pub struct Seen<'a, I: Inserted = Vec<TypeIndex>> {
-    /// All that are open.
+    /// All open indices.
     pub set: &'a mut BTreeSet<TypeIndex>,
-    /// Those that this level put in.
+    /// The indices that this level inserted.
     pub inserted: I,
 }
 
@@ -145,12 +145,12 @@ impl<'a> Seen<'a> {
         }
     }
 
-    /// Puts an index in, until this level is dropped.
+    /// Inserts an index until this level is dropped.
     ///
     /// # Errors
     ///
-    /// [`SeenError::Already`] where the index is there. Answers `OutOfMemory` where memory runs out. In either case
-    /// the set is as it was.
+    /// [`SeenError::Already`] if the index is in the set, and `OutOfMemory` if memory runs out. In both cases the set
+    /// stays as it was.
     pub fn insert(&mut self, index: TypeIndex) -> Result<(), SeenError>
         ensures same_reference { self.new.set.ghost_name ≡ self.old.set.ghost_name }
         ensures state { OnOk result ((q : ℕ) → has self.new.set.now q ≡ (has self.old.set.now q || q == index.0)) }
@@ -158,7 +158,7 @@ impl<'a> Seen<'a> {
         ensures refused { IfErr result (λ e. IsRefusal e index (has self.old.set.now index.0)) }
         ensures inserted_unchanged { OnErr result (self.new.inserted.items ≡ self.old.inserted.items) }
         ensures unchanged_if_refused { OnErr result ((q : ℕ) → has self.new.set.now q ≡ has self.old.set.now q) }
-        // Whatever the result is, what stood before the level stays.
+        // Whatever the result is, the indices of outer levels stay.
         ensures inserted { OnOk result (self.new.inserted.items ≡ self.old.inserted.items ++ index ∷ []) }
         ensures base_unchanged { (q : ℕ) → base self.new.set.now self.new.inserted.items q
             ≡ base self.old.set.now self.old.inserted.items q }
@@ -166,7 +166,7 @@ impl<'a> Seen<'a> {
         put(self.set, &mut self.inserted, index)
     }
 
-    // A level over a set, with one index put in. Where it is refused the set is as it was.
+    // A level over a set, with one index inserted. If it is refused, the set stays as it was.
     fn with_one(
         set: &'a mut BTreeSet<TypeIndex>,
         alloc: Global,
@@ -186,8 +186,8 @@ impl<'a> Seen<'a> {
         Ok(Seen { set, inserted })
     }
 
-    /// A level above this one: what it puts in is taken out when it is dropped, and this one stays. The set of this one
-    /// then is what the set of that one ended as.
+    /// A level above this one. The indices that it inserts are removed when it is dropped, and this level stays. The
+    /// set of this level is then as that level's set ended.
     pub fn new_level(&mut self) -> Seen<'_>
         ensures same_set { (q : ℕ) → has result.set.now q ≡ has self.entry.now.set.now q }
         ensures nothing { result.inserted.items ≡ [] }
@@ -197,11 +197,11 @@ impl<'a> Seen<'a> {
         Seen::new(alloc, self.set)
     }
 
-    /// A level above this one with one index put in.
+    /// A level above this one, with one index inserted.
     ///
     /// # Errors
     ///
-    /// As [`Seen::insert`]. The set is then as it was.
+    /// Those of [`Seen::insert`]. The set then stays as it was.
     pub fn insert_one(&mut self, index: TypeIndex) -> Result<Seen<'_>, SeenError>
         ensures answer { IfOk result (λ level. (q : ℕ)
             → has level.set.now q ≡ (has self.entry.now.set.now q || q == index.0)) }

@@ -1,6 +1,6 @@
-//! What follows from the definitions of signatures, in words of its own.
+//! Laws on the documents of signatures, types and ids.
 //!
-//! Each function here does nothing. Its contract is a law, for all records, and the check proves it.
+//! Each function here does nothing. Its contract states a law, which the checker proves for all records.
 
 ghost use Rattle.std.specs.Prelude.{◌≡◌, ℕ, true, List, [], ◌∷◌, Some, Ok};
 ghost use Rattle.pdb_records.specs.Readings.{Read};
@@ -24,8 +24,8 @@ ghost use Rattle.pdb_type_texts.specs.Unfolding.{HasOneUnfolding, Unfolds, Runs}
 ghost use Rattle.pdb_type_texts.specs.Wording.{comma};
 ghost use Rattle.pdb_type_texts.specs.Signatures.{signature, type_of_index};
 
-/// Every type has exactly one document, whatever the records say and whichever indices are open,
-/// although types may refer to each other in circles.
+/// Every type has exactly one document, for all records and any set of open indices, although types may refer to each
+/// other in circles.
 pub fn every_type_has_one_unfolding()
     ensures { (link_inputs : LinkInputs) (types : Read (Item TypeIndex TypeData)) (ids : Read (Item IdIndex IdData))
         (pointer : ℕ) (flags : TypeFormatterFlags) (module_index : ℕ) (inside : List ℕ) (index : ℕ)
@@ -33,7 +33,7 @@ pub fn every_type_has_one_unfolding()
         (type_of_index inside index) }
 {}
 
-/// Every signature has exactly one document, whatever its name and type and whatever the records say.
+/// Every signature has exactly one document, for all names, types and records.
 pub fn every_signature_has_one_unfolding()
     ensures { (link_inputs : LinkInputs) (types : Read (Item TypeIndex TypeData)) (ids : Read (Item IdIndex IdData))
         (pointer : ℕ) (flags : TypeFormatterFlags) (module_index : ℕ) (name : List ℕ) (index : ℕ)
@@ -41,8 +41,8 @@ pub fn every_signature_has_one_unfolding()
         (signature w name index) }
 {}
 
-/// Every id has exactly one document, whatever the records say and whichever ids it is a scope of, although ids
-/// may be each other's scopes.
+/// Every id has exactly one document, for all records and any ids of which it is a scope, although ids may be each
+/// other's scopes.
 pub fn every_id_has_one_unfolding()
     ensures { (link_inputs : LinkInputs) (types : Read (Item TypeIndex TypeData)) (ids : Read (Item IdIndex IdData))
         (pointer : ℕ) (flags : TypeFormatterFlags) (module_index : ℕ) (inside met : List ℕ) (index : ℕ)
@@ -61,8 +61,8 @@ pub fn an_index_inside_itself_is_circular()
         (record { text = []; fault = Some (OfError (Plain (CircularTypeDefinition index))); failed = failed }) }
 {}
 
-/// A scope that was met before in its chain is refused as circular, and it isn't even read: nothing is asked of
-/// the print inputs that it is printed from.
+/// A scope that occurs a second time in its chain is refused as circular. It isn't even read: the print inputs aren't
+/// asked for it.
 pub fn a_scope_that_repeats_is_circular()
     ensures { (w : PrintInputs) (inside met : List ℕ) (index : ℕ)
         → is_among index met ≡ true
@@ -71,13 +71,13 @@ pub fn a_scope_that_repeats_is_circular()
         (record { text = []; fault = Some (OfError (Plain (CircularTypeDefinition index))); failed = failed }) }
 {}
 
-/// What is printed, and whether printing succeeds, doesn't depend on which parts of the records were met
-/// broken before. Only the error that a broken part answers does, and which parts are broken in the end.
+/// The printed text, and whether printing succeeds, don't depend on which parts of the records were found broken
+/// before. Only the error for a broken part depends on it, and the set of broken parts afterwards.
 pub fn text_does_not_depend_on_failed_parts()
     ensures { (d : Document) (failed failed' : Parts) → AlikeRuns (run d failed) (run d failed') }
 {}
 
-/// The document that is computed of a signature is the one that it unfolds to.
+/// The document that is computed for a signature is the one to which it unfolds.
 pub fn the_document_of_a_signature_is_what_it_unfolds_to()
     ensures { (link_inputs : LinkInputs) (types : Read (Item TypeIndex TypeData)) (ids : Read (Item IdIndex IdData))
         (pointer : ℕ) (flags : TypeFormatterFlags) (module_index : ℕ) (name : List ℕ) (index : ℕ)
@@ -85,7 +85,7 @@ pub fn the_document_of_a_signature_is_what_it_unfolds_to()
         Unfolds w (signature w name index) (document_of w (signature w name index)) }
 {}
 
-/// The document that is computed of an id is the one that it unfolds to.
+/// The document that is computed for an id is the one to which it unfolds.
 pub fn the_document_of_an_id_is_what_it_unfolds_to()
     ensures { (link_inputs : LinkInputs) (types : Read (Item TypeIndex TypeData)) (ids : Read (Item IdIndex IdData))
         (pointer : ℕ) (flags : TypeFormatterFlags) (module_index : ℕ) (index : ℕ)
@@ -93,7 +93,7 @@ pub fn the_document_of_an_id_is_what_it_unfolds_to()
         Unfolds w (id_of_index index) (document_of w (id_of_index index)) }
 {}
 
-/// Siblings may repeat: of an argument that stands twice in a list, the same is printed twice.
+/// Siblings may repeat: an argument that occurs twice in a list is printed twice in the same way.
 pub fn siblings_may_repeat()
     ensures { (w : PrintInputs) (inside : List ℕ) (argument : TypeIndex) (d : Document)
         → Unfolds w (type_of_index inside argument.0) d

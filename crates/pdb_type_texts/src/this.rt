@@ -1,27 +1,27 @@
-//! What the type of a method's `this` shows: a constant method, or one argument more.
+//! `ThisParameter`: whether a method is constant or has `this` as an argument, by the type of `this`.
 
 ghost use Rattle.std.specs.Prelude.{◌≡◌};
 ghost use Rattle.pdb_type_texts.specs.Methods.{this_by_target};
 
 use pdb_records::{TypeData, TypeIndex};
 
-/// What a method's `this` shows.
+/// The properties of a method that the type of its `this` shows.
 #[derive(Clone, Copy)]
 pub struct ThisParameter {
     /// Whether the method is constant.
     pub constant: bool,
-    /// `this`, where it is printed as the first argument.
+    /// The type of `this`, if it is printed as the first argument.
     pub argument: Option<TypeIndex>,
 }
 
-/// A method that is not constant, and has no argument before its list.
+/// A method that isn't constant, and doesn't have `this` as an argument.
 pub const PLAIN_THIS: ThisParameter = ThisParameter {
     constant: false,
     argument: None,
 };
 
-/// What the target of `this` shows: a modifier of the class says whether the method is constant. Else `this`
-/// is an argument.
+/// The properties of a method by the target of `this`. If that is a modifier of the class, it says whether the method
+/// is constant. Otherwise `this` is an argument.
 pub fn this_by_target(class: TypeIndex, this: TypeIndex, target: &TypeData) -> ThisParameter
     ensures { result ≡ this_by_target class this target.now }
 {

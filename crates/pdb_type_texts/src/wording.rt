@@ -1,4 +1,4 @@
-//! The pieces of text that signatures are made of: words, names, notes of what is missing.
+//! `Wording`: the pieces of text in signatures: words, names, and notes on missing types.
 
 ghost use Rattle.std.specs.Prelude.{◌≡◌, ◌++◌, OnOk, string_bytes};
 ghost use Rattle.pdb_records.specs.Names.{lossy};
@@ -16,35 +16,34 @@ use pdb_records::{ClassKind, PrimitiveType, RawString, TypeIndex};
 use pdb_types::TypeFormatterFlags;
 use std::alloc::AllocError;
 
-/// A piece of a signature that is known as it stands.
+/// A piece of a signature that needs no further reading.
 #[derive(Drop)]
 pub enum Wording<'s> {
     /// This text.
     Text(&'s str),
-    /// A note of a type or an id that is missing.
+    /// A note on a missing type or id.
     MissingType(u32),
-    /// A note of a type or an id of a kind that the reader of the records doesn't know.
+    /// A note on a type or id of a kind that the reader of the records doesn't know.
     UnimplementedKind(u16),
-    /// A note of a type of a kind that is read and not printed.
+    /// A note on a type of a known kind that isn't printed.
     UnhandledKind(&'s str),
-    /// What stands for a scope of a kind that is read and not printed.
+    /// A note in place of a scope of a known kind that isn't printed.
     UnhandledScope(&'s str),
-    /// A name, with the word that it was declared with before it unless names stand alone.
+    /// A name, after `class`, `union` or a similar word unless the flags omit that.
     Declared(&'static str, &'s RawString),
-    /// The name of a function, or a note where it is empty.
+    /// The name of a function, or a note if it is empty.
     FunctionName(&'s RawString),
     /// The name of a namespace.
     Namespace(&'s RawString),
-    /// A type that the compiler brings, constant or not.
+    /// A primitive type, and whether it is constant.
     Primitive(PrimitiveType, bool),
-    /// The pointers to a function, which stand in parentheses; the last collected stands last.
+    /// The pointers to a function, which are in parentheses; the last collected comes last.
     Pointers(Vec<Attribute>),
     /// The dimensions of an array, by the sizes of its levels and of its base.
     Dimensions(Vec<u32>, u64),
 }
 
-/// Appends a piece of a signature.
-/// Answers `AllocError` where memory runs out.
+/// Appends a piece of a signature. `AllocError` if memory runs out.
 pub fn write(
     text: &mut String,
     flags: TypeFormatterFlags,
@@ -71,35 +70,35 @@ pub fn write(
     }
 }
 
-/// Appends the note of a type or an id that is missing.
+/// Appends the note on a missing type or id.
 pub fn write_missing(text: &mut String, index: u32) -> Result<(), AllocError>
     ensures { OnOk result (string_bytes text.new ≡ string_bytes text.old ++ missing_text index) }
 {
     write!(text, "<missing type 0x{index:x}>")
 }
 
-// Appends the note of a type or an id of a kind that the reader of the records doesn't know.
+// Appends the note on a type or id of a kind that the reader of the records doesn't know.
 fn write_unimplemented(text: &mut String, kind: u16) -> Result<(), AllocError>
     ensures { OnOk result (string_bytes text.new ≡ string_bytes text.old ++ unimplemented_text kind) }
 {
     write!(text, "<unimplemented type kind 0x{kind:x}>")
 }
 
-// Appends the note of a type of a kind that is read and not printed.
+// Appends the note on a type of a known kind that isn't printed.
 fn write_unhandled(text: &mut String, kind: &str) -> Result<(), AllocError>
     ensures { OnOk result (string_bytes text.new ≡ string_bytes text.old ++ unhandled_text kind.now) }
 {
     write!(text, "unhandled type /* {kind} */")
 }
 
-// Appends what stands for a scope of a kind that is read and not printed.
+// Appends the note in place of a scope of a known kind that isn't printed.
 fn write_unhandled_scope(text: &mut String, kind: &str) -> Result<(), AllocError>
     ensures { OnOk result (string_bytes text.new ≡ string_bytes text.old ++ unhandled_scope_text kind.now) }
 {
     write!(text, "<unhandled id scope {kind}>::")
 }
 
-// Appends the name of a function, or a note where it is empty.
+// Appends the name of a function, or a note if it is empty.
 fn write_function_name(text: &mut String, name: &RawString) -> Result<(), AllocError>
     ensures { OnOk result (string_bytes text.new ≡ string_bytes text.old ++ function_name (lossy name.now)) }
 {
@@ -107,7 +106,7 @@ fn write_function_name(text: &mut String, name: &RawString) -> Result<(), AllocE
     text.push_str(function_name(name.as_str()))
 }
 
-// Appends what a namespace is called in print.
+// Appends the printed name of a namespace.
 fn write_namespace(text: &mut String, name: &RawString) -> Result<(), AllocError>
     ensures { OnOk result (string_bytes text.new ≡ string_bytes text.old ++ namespace_text (lossy name.now)) }
 {
@@ -115,8 +114,7 @@ fn write_namespace(text: &mut String, name: &RawString) -> Result<(), AllocError
     text.push_str(namespace_name(name.as_str()))
 }
 
-// Appends a name as text, with the word that it was declared with before it, unless names stand
-// alone.
+// Appends a name as text, after its word (such as `class`) unless the flags omit that.
 fn write_declared(
     text: &mut String,
     flags: TypeFormatterFlags,
@@ -132,7 +130,7 @@ fn write_declared(
     text.push_str(name.as_str())
 }
 
-/// The word that a class was declared with, with a space after it.
+/// The word for a kind of class, with a space after it.
 pub fn class_word(kind: ClassKind) -> &'static str
     ensures { result.now ≡ class_word kind }
 {
@@ -143,7 +141,7 @@ pub fn class_word(kind: ClassKind) -> &'static str
     }
 }
 
-/// The name of a function, or a note where it is empty.
+/// The name of a function, or a note if it is empty.
 pub fn function_name(name: &str) -> &str
     ensures { result.now ≡ function_name name.now }
 {
@@ -154,7 +152,7 @@ pub fn function_name(name: &str) -> &str
     }
 }
 
-/// What stands before a method: `static` where it has no `this`, unless that word is left out.
+/// The text before a method: `static` if it has no `this`, unless the flags omit that word.
 pub fn static_word(flags: TypeFormatterFlags, this: Option<TypeIndex>) -> &'static str
     ensures { result.now ≡ static_text flags this }
 {
@@ -165,7 +163,7 @@ pub fn static_word(flags: TypeFormatterFlags, this: Option<TypeIndex>) -> &'stat
     }
 }
 
-/// What stands between two arguments.
+/// The text between two arguments.
 pub fn comma(flags: TypeFormatterFlags) -> &'static str
     ensures { result.now ≡ comma flags }
 {

@@ -29,7 +29,7 @@ has_failed failed part = has_part part_cmp failed part
 abbrev pub with_part : Parts → Part → Parts
 with_part failed part = add_part part_cmp failed part
 
--- these parts, and the one that was met broken, if one was
+-- these parts, and the one that was found broken, if any
 abbrev pub with_met : Parts → Option Part → Parts
 with_met failed met = add_met part_cmp failed met
 
@@ -42,6 +42,6 @@ unsuccessful_part (Exports module_index) = ModuleExportsUnsuccessful
 abbrev pub unsuccessful : Part → ErrorView
 unsuccessful part = Plain (unsuccessful_part part)
 
--- what a part answers that is met broken: that it failed before, where it did, else its own error
+-- the error for a broken part: that it failed before, if it did, otherwise its own error
 abbrev pub part_error : Parts → Part → ErrorView → ErrorView
 part_error failed part e = error_of_part part_cmp unsuccessful failed part e

@@ -8,27 +8,27 @@ use Rattle.pdb_types.specs.declared.read_error.ReadError.{ReadError}
 use Rattle.pdb_types.specs.declared.read_error.ReadError.TheVariants as code
 use Rattle.pdb_errors.specs.Errors.{ErrorView, Plain, error_view}
 
--- the view of a read error: nothing has this number, its kind isn't known, there is no answer, or a part of the
--- records is broken. Out of memory is none of these
+-- the model of a read error: no entry has this number, its kind isn't known, there is no answer, or a part of the
+-- records is broken. An allocation failure is none of these
 pub data ReadErrorView : Type 0 where
   Missing : ℕ → ReadErrorView
   Unimplemented : ℕ → ReadErrorView
   Refused : ErrorView → ReadErrorView
   Broken : Part → ErrorView → ReadErrorView
 
--- the view of the read error that an error of the records is
+-- the model of the read error for an error of the records
 abbrev pub read_error_view_by : records.Error → ReadErrorView
 read_error_view_by (TypeNotFound number) = Missing number
 read_error_view_by (UnimplementedTypeKind kind) = Unimplemented kind
 read_error_view_by other = Refused (Plain (PdbError other))
 
--- the same, as the code has it
+-- the read error for an error of the records
 abbrev pub read_error_by : records.Error → ReadError
 read_error_by (TypeNotFound number) = code.Missing number
 read_error_by (UnimplementedTypeKind kind) = code.Unimplemented kind
 read_error_by other = code.Refused (PdbError other)
 
--- an answer is the definition's, and so is the view of a read error in place of one, except where memory runs out
+-- a result is the defined one, or has the model of the defined read error, except after an allocation failure
 abbrev pub Matches : {A B : Type 0} → (A → B) → Result A ReadError → Result B ReadErrorView → Type 0
 Matches view (Ok answer) definition = definition ≡ Ok (view answer)
 Matches view (Err code.OutOfMemory) definition = Unit {0}

@@ -1,4 +1,4 @@
--- How many bytes a value of a type takes.
+-- The sizes of types in bytes.
 use Rattle.std.specs.Prelude.{ℕ, List, [], ◌∷◌, Option, Some, None, if◌then◌else◌}
 use Rattle.pdb_records.specs.declared.types.PrimitiveKind.{PrimitiveKind}
 use Rattle.pdb_records.specs.declared.types.PrimitiveKind.TheVariants.{NoType, Void, Char, UChar, RChar, WChar}
@@ -18,7 +18,7 @@ use Rattle.pdb_records.specs.declared.types.TypeData.TheVariants.{Enumerate, Mod
 use Rattle.pdb_records.specs.declared.debug_information.MachineType.{MachineType}
 use Rattle.pdb_records.specs.declared.debug_information.MachineType.TheVariants as machine
 
--- the bytes of a pointer on a machine
+-- the size of a pointer on a machine, in bytes
 abbrev pub pointer_size : MachineType → ℕ
 pointer_size machine.Amd64 = 8
 pointer_size machine.Arm64 = 8
@@ -27,7 +27,7 @@ pointer_size machine.RiscV64 = 8
 pointer_size machine.RiscV128 = 16
 pointer_size machine.Other = 4
 
--- the bytes of a type that the compiler brings
+-- the size of a primitive type, in bytes
 abbrev pub primitive_size : PrimitiveKind → ℕ
 primitive_size NoType = 0
 primitive_size Void = 0
@@ -73,7 +73,7 @@ primitive_size Bool32 = 4
 primitive_size Bool64 = 8
 primitive_size HRESULT = 4
 
--- the bytes of a named value of an enumeration: as wide as its number was declared
+-- the size of a named value of an enumeration, in bytes: as wide as its number was declared
 abbrev pub variant_size : Variant → ℕ
 variant_size (value.U8 n) = 1
 variant_size (value.U16 n) = 2
@@ -89,13 +89,13 @@ abbrev pub last_of : ℕ → List ℕ → ℕ
 last_of first [] = first
 last_of first (next ∷ rest) = last_of next rest
 
--- the type whose size another type has: an enumeration and a modifier have that of the type underneath
+-- the type underneath, whose size a type has: an enumeration and a modifier have one
 abbrev pub underneath : TypeData → Option TypeIndex
 underneath (Enumeration e) = Some e.underlying_type
 underneath (Modifier m) = Some m.underlying_type
 underneath other = None
 
--- the size that a type itself says, by the size of a pointer
+-- the size that a type has in itself, by the size of a pointer
 abbrev pub own_size : ℕ → TypeData → ℕ
 own_size pointer (Primitive p) = if p.indirection then pointer else primitive_size p.kind
 own_size pointer (Class c) = c.size

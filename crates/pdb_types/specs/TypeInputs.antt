@@ -1,4 +1,4 @@
--- The type inputs: what answers about types are computed from.
+-- The type inputs: the data from which answers about types are computed.
 use Rattle.std.specs.Prelude.{ℕ, List, Option, Result, Ok, Err}
 use Rattle.pdb_records.specs.Readings.{Read}
 use Rattle.pdb_records.specs.declared.error.StreamError.{StreamError}
@@ -28,7 +28,7 @@ pub record TypeInputs (P : Type 0) : Type 0 where
   pub ids : Read (Item IdIndex IdData)
   pub flags : TypeFormatterFlags
 
--- the link inputs: what is known of each module, the list of modules, and the texts
+-- the link inputs: the records of each module, the list of modules, and the texts
 pub record LinkInputs : Type 0 where
   pub info : ProviderInfos
   pub modules : List Module

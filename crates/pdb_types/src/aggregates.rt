@@ -1,4 +1,4 @@
-//! Classes and unions alike: what each goes by, its size, and whether it is a forward reference.
+//! `Aggregate`: the common fields of classes and unions: name, size, and whether it is a forward reference.
 
 ghost use Rattle.std.specs.Prelude.{◌≡◌, option_map};
 ghost use Rattle.std.specs.Option.{unwrap_or};
@@ -6,18 +6,18 @@ ghost use Rattle.pdb_types.specs.ForwardReferences.{aggregate_view, aggregate, i
 
 use pdb_records::{Item, RawString, TypeData, TypeIndex};
 
-// What a class or a union says of itself.
+// The common fields of a class or a union.
 #[derive(Clone, Copy)]
 pub(crate) struct Aggregate<'a> {
-    // What it goes by: its unique name where it has one, else its name.
+    // The name by which it is found: its unique name if it has one, else its name.
     pub(crate) name: &'a RawString,
     // Its size in bytes.
     pub(crate) size: u64,
-    // Whether only its name is known here.
+    // Whether it is only a forward reference, without members.
     pub(crate) forward_reference: bool,
 }
 
-// What a class or a union goes by: its unique name where it has one, else its name.
+// The name by which a class or a union is found: its unique name if it has one, else its name.
 fn name_of<'a>(unique_name: &'a Option<RawString>, name: &'a RawString) -> &'a RawString
     ensures { result.now ≡ unwrap_or unique_name.now name.now }
 {
@@ -27,7 +27,7 @@ fn name_of<'a>(unique_name: &'a Option<RawString>, name: &'a RawString) -> &'a R
     }
 }
 
-// What a class or a union says of itself. Other types say nothing.
+// The common fields of a class or a union; `None` for other types.
 pub(crate) fn aggregate_of(type_data: &TypeData) -> Option<Aggregate<'_>>
     ensures { option_map aggregate_view result ≡ aggregate type_data.now }
 {
@@ -46,7 +46,7 @@ pub(crate) fn aggregate_of(type_data: &TypeData) -> Option<Aggregate<'_>>
     }
 }
 
-// What an entry says, if it could be read.
+// The common fields of an entry, if it can be read and is a class or a union.
 pub(crate) fn item_aggregate(item: &Item<TypeIndex, TypeData>) -> Option<Aggregate<'_>>
     ensures { option_map aggregate_view result ≡ item_aggregate item.now }
 {

@@ -1,4 +1,4 @@
-//! Lists whose entries have numbers that ascend: how far they do, and the search for an entry in them.
+//! Lists whose entries have ascending numbers: how far they ascend, and the search for an entry.
 
 ghost use Rattle.std.specs.Prelude.{◌≡◌, ◌<◌, ◌≤◌, ◌+◌, ℕ, IfSome, Some, None, length, slice_get, take};
 ghost use Rattle.std.specs.Option.{option_copied};
@@ -6,15 +6,15 @@ ghost use Rattle.pdb_types.specs.Ascending.{Ascends, first_numbered};
 
 // An entry of a list that is found by its number.
 pub(crate) trait Numbered {
-    // The number that the entry is found by.
+    // The number by which the entry is found.
     ghost number_of: { Self → ℕ };
 
-    // The number that the entry is found by.
+    // The number by which the entry is found.
     fn number(&self) -> u32
         ensures { result ≡ number_of self.now };
 }
 
-// The entry that has this number if no number is left out from there to the last entry.
+// The entry with this number, if no number is missing from there to the last entry.
 fn hint<T: Numbered>(entries: &[T], number: u32) -> Option<&T>
     requires { Ascends T.number_of entries.now }
     ensures { IfSome result (λ entry. first_numbered T.number_of number entries.now ≡ Some entry.now) }
@@ -29,10 +29,10 @@ fn hint<T: Numbered>(entries: &[T], number: u32) -> Option<&T>
     None
 }
 
-// The entry with this number, among entries whose numbers ascend. It takes no memory.
+// The entry with this number, among entries with ascending numbers. It allocates nothing.
 //
-// Lists that linkers write end in entries with no number left out, so a hint from the end comes before a binary
-// search.
+// In lists that linkers write, the last entries have consecutive numbers. So the position counted from the end is tried
+// before a binary search.
 pub(crate) fn find_ascending<T: Numbered>(entries: &[T], number: u32) -> Option<&T>
     requires { Ascends T.number_of entries.now }
     ensures { option_copied result ≡ first_numbered T.number_of number entries.now }
@@ -46,7 +46,7 @@ pub(crate) fn find_ascending<T: Numbered>(entries: &[T], number: u32) -> Option<
     }
 }
 
-// The entry behind those at the beginning, whose numbers ascend, if there is one and its number is above theirs.
+// The entry after the first `ascending` ones, if its number is greater than theirs.
 fn next_above<T: Numbered>(entries: &[T], ascending: usize) -> Option<&T>
     requires { Ascends T.number_of (take ascending entries.now) }
     ensures entry { IfSome result (λ entry. slice_get entries.now ascending ≡ Some entry.now) }
@@ -62,7 +62,7 @@ fn next_above<T: Numbered>(entries: &[T], ascending: usize) -> Option<&T>
     None
 }
 
-// How many entries at the beginning ascend.
+// How many entries at the beginning of a list have ascending numbers.
 pub(crate) fn ascending_length<T: Numbered>(entries: &[T]) -> usize
     ensures within { result ≤ length entries.now }
     ensures ascends { Ascends T.number_of (take result entries.now) }
@@ -74,7 +74,7 @@ pub(crate) fn ascending_length<T: Numbered>(entries: &[T]) -> usize
     ascending
 }
 
-// Reads on to the entry with this number, which isn't among those that were read, or else as far as numbers ascend.
+// Reads entries until it finds this number, or numbers no longer ascend. The number isn't among those read before.
 pub(crate) fn read_ascending<'a, T: Numbered>(
     entries: &'a [T],
     ascending: &mut usize,
@@ -97,8 +97,8 @@ pub(crate) fn read_ascending<'a, T: Numbered>(
     None
 }
 
-// The entry with this number, among the entries at the beginning, whose numbers ascend. As long as none behind them
-// was read, it reads on to it, and else as far as numbers ascend.
+// The entry with this number, among the entries at the beginning whose numbers ascend. If no entry after these was read
+// yet, it reads on as far as numbers ascend.
 pub(crate) fn find_in_beginning<'a, T: Numbered>(
     entries: &'a [T],
     ascending: &mut usize,

@@ -1,4 +1,4 @@
-//! Maps that cache the entries of a list by their numbers, where the numbers don't ascend.
+//! Caches of a list's entries by number, for lists whose numbers don't ascend.
 
 ghost use Rattle.std.specs.Prelude.{◌≡◌, ◌≤◌, ◌∷◌, [], ℕ, IfOk, OnOk, OnErr, length, option_map, take};
 ghost use Rattle.std.specs.Option.{option_copied, option_or};
@@ -11,7 +11,7 @@ use crate::ascending::Numbered;
 use std::alloc::{AllocError, Global};
 use std::collections::BTreeMap;
 
-// Remembers an entry by its number, unless an earlier one has the number.
+// Adds an entry to the map, unless an earlier one has its number.
 fn insert_first<'a, T: Numbered>(
     known: &mut BTreeMap<u32, &'a T>,
     entry: &'a T,
@@ -32,7 +32,7 @@ fn insert_first<'a, T: Numbered>(
     }
 }
 
-// The entry with this number, among those that are known.
+// The cached entry with this number.
 pub(crate) fn look_up<'a, T: Numbered>(known: &BTreeMap<u32, &'a T>, number: u32) -> Option<&'a T>
     ensures { option_copied result ≡ option_map (λ entry. entry.now) (get nat_cmp known.now number) }
 {
@@ -42,7 +42,7 @@ pub(crate) fn look_up<'a, T: Numbered>(known: &BTreeMap<u32, &'a T>, number: u32
     }
 }
 
-// The entries of a list by their numbers.
+// A map of all entries of a list by number.
 pub(crate) fn cache_all<'a, T: Numbered>(
     alloc: Global,
     entries: &'a [T],
@@ -56,7 +56,7 @@ pub(crate) fn cache_all<'a, T: Numbered>(
     Ok(known)
 }
 
-// The first entry with this number: one that is known, or else the list is read on to it, or to its end.
+// The first entry with this number. If it isn't cached, the list is read on to it, or to the end.
 pub(crate) fn read_on<'a, T: Numbered>(
     entries: &'a [T],
     known: &mut BTreeMap<u32, &'a T>,

@@ -1,4 +1,4 @@
-//! The exports of a module, each found by its number in a table that is made once.
+//! `ExportTable`: a table of a module's exports by number.
 
 ghost use Rattle.std.specs.FinMap.{nat_cmp-IsAntisymmetric};
 ghost use Rattle.std.specs.Prelude.{◌≡◌, IfOk};
@@ -21,7 +21,7 @@ impl Numbered for (u32, u32) {
     }
 }
 
-// What a module exports, each index found by its number in a table that is made once.
+// The exports of a module, found by their numbers. The table is made once.
 pub(crate) struct ExportTable<'a> {
     exports: NumberedTable<'a, (u32, u32)>,
 }
@@ -34,7 +34,7 @@ impl<'a> Model for ExportTable<'a> {
     ghost view = { λ t. t.exports };
 }
 
-// It is made once for each module index.
+// A table is made once for each module index.
 impl Once<usize> for ExportTable<'_> {
     ghost Source = { LinkInputs };
 

@@ -1,11 +1,11 @@
-//! The parts of modules' records that were met broken, and the error of one that failed before.
+//! `FailedParts`: the parts of modules' records that were found broken, and the error for each one that failed before.
 
 ghost use Rattle.pdb_types.specs.FailedParts.{unsuccessful_part};
 
 use crate::read_error::Part;
 use pdb_errors::{BrokenPart, Error, PartSet};
 
-/// The parts of the records that were met broken.
+/// The parts of the records that were found broken.
 pub type FailedParts = PartSet<Part>;
 
 impl BrokenPart for Part {

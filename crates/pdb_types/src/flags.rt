@@ -1,24 +1,24 @@
-//! The flags of the formatter: what is printed of a signature, and how.
+//! `TypeFormatterFlags`: what is printed of a signature, and how.
 
 ghost use Rattle.std.specs.Prelude.{⊤, ◌≡◌, [], ◌∷◌, codes};
 
 use bitflags::{Flag, Flags, bitflag_items};
 
-/// What is printed of a signature, and how. Bits beyond the six names mean nothing.
+/// What is printed of a signature, and how. Bits other than the six named ones mean nothing.
 #[derive(Clone, Copy)]
 pub struct TypeFormatterFlags(u32);
 
 bitflag_items! {
     impl TypeFormatterFlags: u32 {
-        /// Functions are printed without the type that they return.
+        /// Functions are printed without their return type.
         const NO_FUNCTION_RETURN = 1;
         /// Methods are printed without the word `static`.
         const NO_MEMBER_FUNCTION_STATIC = 2;
-        /// A space stands behind each comma of a list of arguments.
+        /// A space is printed after each comma of an argument list.
         const SPACE_AFTER_COMMA = 4;
-        /// A space stands before each `*` and `&`.
+        /// A space is printed before each `*` and `&`.
         const SPACE_BEFORE_POINTER = 8;
-        /// Of a class, a union or an enumeration only the name is printed.
+        /// Classes, unions and enumerations are printed without `class`, `union` or `enum`.
         const NAME_ONLY = 16;
         /// Functions are printed without their arguments.
         const NO_ARGUMENTS = 32;
@@ -54,7 +54,7 @@ impl Flags for TypeFormatterFlags {
 }
 
 impl Default for TypeFormatterFlags {
-    /// No return types, no `static`, a space behind commas, and names alone.
+    /// No return types, no `static`, a space after commas, and only names of classes, unions and enumerations.
     fn default() -> Self
         ensures { result.0 ≡ 23 }
     {

@@ -1,4 +1,4 @@
-//! The size of a class or a union for a forward reference to it, by a scan of the list of types.
+//! `TypeSizeCache`: finds the size of a class or a union for a forward reference, by a scan of the list of types.
 
 ghost use Rattle.std.specs.Prelude.{◌≡◌, MatchResult};
 ghost use Rattle.std.specs.Str.{bytes_eq};
@@ -17,7 +17,7 @@ fn is_same_name(a: &RawString, b: &RawString) -> bool
     a.0 == b.0
 }
 
-// The size that an entry gives to a name.
+// The size of an entry, if it defines this name.
 fn definition_size(item: &Item<TypeIndex, TypeData>, name: &RawString) -> Option<u64>
     ensures { result ≡ definition_size name.now item.now }
 {
@@ -47,9 +47,9 @@ fn size_behind(
     None
 }
 
-/// Finds the sizes of classes and unions of which a name alone is known.
+/// Finds the sizes of classes and unions for forward references to them.
 ///
-/// It caches nothing: each call brings a list of its own.
+/// Despite its name it caches nothing, because each call may pass another list.
 #[derive(Drop)]
 pub struct TypeSizeCache {}
 
@@ -61,11 +61,11 @@ impl TypeSizeCache {
 
     /// The size of a class or a union, for a forward reference to it.
     ///
-    /// Of the entries behind the first one with the index `resolved`, the first that defines a class or
-    /// a union of this name has the size. A type goes by its unique name where it has one, else by its
-    /// name. The answer is `None` where no such entry is there. The list is read as far as that entry.
+    /// Of the entries after the first one with the index `resolved`, the first that defines a class or a union of this
+    /// name has the size. The name is compared with its unique name if it has one, else with its name. `None` if there
+    /// is no such entry. The list is read up to that entry.
     ///
-    /// Answers `OutOfMemory` where memory runs out.
+    /// `OutOfMemory` if memory runs out.
     pub fn get_size_for_forward_reference(
         &mut self,
         resolved: TypeIndex,

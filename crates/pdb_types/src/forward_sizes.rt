@@ -1,4 +1,4 @@
-//! The sizes of all forward references, in a table that is made in one pass over the list of types.
+//! Makes a table of the sizes of all forward references in one pass over the list of types.
 
 ghost use Rattle.std.specs.Prelude.{◌≡◌, ◌==◌, ℕ, List, IfOk, OnOk, option_map, option_and_then, if◌then◌else◌};
 ghost use Rattle.std.specs.Option.{option_or};
@@ -18,7 +18,7 @@ fn bytes_of(name: &RawString) -> &[u8]
     name.0.as_slice()
 }
 
-// The size under the name of a forward reference.
+// The size for the name of a forward reference.
 fn reference_size<'a>(
     by_name: &BTreeMap<&'a [u8], u64>,
     aggregate: Option<Aggregate<'a>>,
@@ -33,7 +33,7 @@ fn reference_size<'a>(
     by_name.get(&bytes_of(reference.name)).copied()
 }
 
-// Puts the size of a definition under its name, in the place of one from behind it.
+// Stores the size of a definition under its name, in place of that of a later one.
 fn define<'a>(
     by_name: &mut BTreeMap<&'a [u8], u64>,
     aggregate: Option<Aggregate<'a>>,
@@ -54,7 +54,7 @@ fn define<'a>(
     }
 }
 
-// Puts the size of an entry under its number, in the place of that of an entry behind it.
+// Stores the size of an entry under its number, in place of that of a later entry.
 fn put_size(
     sizes: &mut BTreeMap<u32, u64>,
     number: u32,
@@ -73,7 +73,7 @@ fn put_size(
     }
 }
 
-// By the number of an index, the size that the own name of its forward reference is given behind it.
+// For each forward reference, by the number of its index, the size in the first definition of its name after it.
 //
 // The list is read once, from its end, with the first definition of each name that was met so far.
 pub(crate) fn forward_sizes(
@@ -96,7 +96,7 @@ pub(crate) fn forward_sizes(
     Ok(sizes)
 }
 
-// The size that a table has under a number.
+// The size in a table for a number.
 pub(crate) fn size_at(sizes: &BTreeMap<u32, u64>, number: u32) -> Option<u64>
     ensures { result ≡ get nat_cmp sizes.now number }
 {

@@ -1,4 +1,4 @@
-//! Types and ids by their index: a map over a list of items, which is read as far as it was asked for.
+//! `ItemMap`: finds types and ids by their index, and reads their list only as far as needed.
 
 ghost use Rattle.std.specs.Prelude.{◌≡◌, ℕ, IfOk};
 ghost use Rattle.std.specs.Option.{option_copied};
@@ -17,10 +17,10 @@ use std::marker::Model;
 
 /// The index of a type or of an id.
 pub trait ItemIndex: Copy + Ord + Drop {
-    /// The number that the index is written as.
+    /// The number of the index.
     ghost number_of: { Self → ℕ };
 
-    /// The number that the index is written as.
+    /// The number of the index.
     fn number(self) -> u32
         ensures { result ≡ number_of self };
 }
@@ -49,17 +49,17 @@ impl<I: ItemIndex, D> Numbered for Item<I, D> {
     }
 }
 
-/// Finds the entries of a list by their index. The list is read as far as it was asked for.
+/// Finds the entries of a list by their index. The list is read as far as lookups needed it.
 ///
-/// As long as the indices ascend from the beginning on, as in lists that linkers write, an entry is searched in the
-/// list itself, and no memory is taken. The entries behind that beginning, if any, are cached by their index.
+/// In lists that linkers write, indices ascend. As far as they do, an entry is searched in the list itself, and nothing
+/// is allocated. Entries after that, if any, are cached by their index.
 pub struct ItemMap<'a, I: ItemIndex, D> {
     information: &'a ItemInformation<I, D>,
-    // How many entries at the beginning were read and ascend.
+    // How many entries at the beginning were read and have ascending indices.
     ascending: usize,
-    // How many entries behind them were read.
+    // How many entries after these were read.
     scanned: usize,
-    // The entries behind them, as far as they were read.
+    // The entries after these that were read.
     known: BTreeMap<u32, &'a Item<I, D>>,
 }
 
@@ -99,7 +99,7 @@ impl<I: ItemIndex, D> Drop for ItemMap<'_, I, D> {
     }
 }
 
-// Why an index has no entry: the list could not be read to its end, or nothing in it has the index.
+// Why an index has no entry: the list ends early, or nothing in it has the index.
 pub(crate) fn absence(fault: Option<StreamError>, number: u32) -> pdb_records::Error
     ensures { result ≡ absence fault number }
 {
@@ -110,7 +110,7 @@ pub(crate) fn absence(fault: Option<StreamError>, number: u32) -> pdb_records::E
 }
 
 impl<'a, I: ItemIndex, D> ItemMap<'a, I, D> {
-    /// A map of a list's entries. It takes no memory yet.
+    /// A map over a list. It takes no memory yet.
     pub fn new(alloc: Global, information: &'a ItemInformation<I, D>) -> Self
         ensures { result ≡ information.now.items }
     {
@@ -149,8 +149,8 @@ impl<'a, I: ItemIndex, D> ItemMap<'a, I, D> {
     ///
     /// # Errors
     ///
-    /// [`Error::PdbError`] where no entry has the index: with the list's fault where it has one, or else
-    /// with the index. Answers `OutOfMemory` where memory runs out; the same question may find an answer afterwards.
+    /// [`Error::PdbError`] if no entry has the index: with the list's fault if it ends early, else with the index.
+    /// `OutOfMemory` if memory runs out; the same call may succeed later.
     pub fn try_get(&mut self, index: I) -> Result<&'a Item<I, D>>
         ensures answer { Gives (λ item. item.now) result (item_of I.number_of self.old (I.number_of index)) }
         ensures unchanged { self.new ≡ self.old }

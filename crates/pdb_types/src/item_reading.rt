@@ -1,4 +1,4 @@
-//! Reading of a type or an id by an index as a module writes it, in another module where it leads there.
+//! Reads a type or an id by an index that a module uses, which may lead to another module.
 
 ghost use Rattle.std.specs.Prelude.{◌≡◌};
 ghost use Rattle.pdb_types.specs.ReadError.{Matches};
@@ -13,7 +13,7 @@ use crate::type_inputs::TypeInputs;
 use pdb_errors::Result;
 use pdb_records::{IdData, IdIndex, ModuleProvider, TypeData, TypeIndex};
 
-// What the first entry with this index says.
+// The content of the first entry with this index.
 fn entry<'a, I: ItemIndex, D>(map: &mut ItemMap<'a, I, D>, index: I) -> Result<&'a D, ReadError>
     ensures answer { Matches (λ content. content.now) result (entry I.number_of map.old (I.number_of index)) }
     ensures unchanged { map.new ≡ map.old }
@@ -30,7 +30,7 @@ fn entry<'a, I: ItemIndex, D>(map: &mut ItemMap<'a, I, D>, index: I) -> Result<&
 }
 
 impl<'a, P: ModuleProvider> TypeInputs<'a, P> {
-    /// The type of an index, asked by the module at a module index, with the index that it stands for.
+    /// The type with an index that the module at a module index uses, together with the index to which that leads.
     pub fn read_type(
         &self,
         cache: &mut TypeCache<'a>,
@@ -47,7 +47,7 @@ impl<'a, P: ModuleProvider> TypeInputs<'a, P> {
         Ok((resolved, type_data))
     }
 
-    /// The id of an index, asked by the module at a module index, with the index that it stands for.
+    /// The id with an index that the module at a module index uses, together with the index to which that leads.
     pub fn read_id(
         &self,
         cache: &mut TypeCache<'a>,

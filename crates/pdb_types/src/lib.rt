@@ -1,7 +1,7 @@
-//! Types and ids by their index, in one module or across modules, and the sizes of types.
+//! Finds types and ids by their index, in one module or across modules, and the sizes of types.
 //!
-//! [`TypeInputs`] is what answers about types are computed from, and is only read. [`TypeCache`] is what was
-//! found so far, and grows. They are for the crates above, whose types hold the two together.
+//! [`TypeInputs`] is the data from which answers about types are computed; it is only read. [`TypeCache`] is what was
+//! found so far. They are for the crates above, whose types combine the two.
 #![tactic(auto)]
 
 mod aggregates;

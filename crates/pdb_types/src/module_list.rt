@@ -1,4 +1,4 @@
-//! The list of modules, each found by its name in a table that is made once.
+//! `ModuleList`: the list of modules, with a table by name.
 
 ghost use Rattle.std.specs.Prelude.{◌≡◌, ℕ, List, Some, IfOk, OnOk, string_bytes, if◌then◌else◌};
 ghost use Rattle.std.specs.BTreeMap.{get_by_text};
@@ -11,7 +11,7 @@ use std::alloc::{AllocError, Global};
 use std::collections::BTreeMap;
 use std::marker::Model;
 
-// The modules of a program, each found by its name in a table that is made once.
+// The modules of a program, with a table by name that is made once.
 #[derive(Drop)]
 pub(crate) struct ModuleList {
     modules: Vec<Module>,
@@ -30,7 +30,7 @@ impl Model for ModuleList {
     ghost invariant = { λ l. KnowsPositions l.modules.items l.positions };
 }
 
-// A name as text, in lower case as far as its letters are ASCII.
+// A name as text, with its ASCII letters in lower case.
 pub(crate) fn lower_case(alloc: Global, name: &RawString) -> Result<String, AllocError>
     ensures { IfOk result (λ text. string_bytes text ≡ str_to_ascii_lowercase (lossy name.now)) }
 {
@@ -39,7 +39,7 @@ pub(crate) fn lower_case(alloc: Global, name: &RawString) -> Result<String, Allo
     Ok(text)
 }
 
-// Puts a module index under the module's name, in the place of one from before.
+// Stores a module index under the module's name, in place of an earlier one.
 fn put(
     positions: &mut BTreeMap<String, usize>,
     lower_name: String,
@@ -53,7 +53,7 @@ fn put(
 }
 
 impl ModuleList {
-    // The modules, with a table of their names. Of several with one name the last is found.
+    // The modules, with a table of their names. If several have the same name, the last one is found.
     pub(crate) fn new(alloc: Global, modules: Vec<Module>) -> Result<Self, AllocError>
         ensures { IfOk result (λ list. list ≡ modules.items) }
     {
@@ -72,7 +72,7 @@ impl ModuleList {
         &self.modules
     }
 
-    // The last module index of a module that has this name in lower case.
+    // The greatest module index with this name in lower case.
     pub(crate) fn last_named(&self, lower_name: &str) -> Option<usize>
         ensures { result ≡ last_position_from 0 (has_lower_name lower_name.now) self.now }
     {

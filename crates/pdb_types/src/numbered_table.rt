@@ -1,4 +1,4 @@
-//! Tables of a list's entries by their numbers, as those of exports and of texts, made once.
+//! `NumberedTable`: a table of a list's entries by number, such as exports or strings.
 
 ghost use Rattle.std.specs.Prelude.{◌≡◌, ◌≤◌, IfOk, length, take};
 ghost use Rattle.std.specs.Option.{option_copied};
@@ -10,17 +10,17 @@ use std::alloc::{AllocError, Global};
 use std::collections::BTreeMap;
 use std::marker::Model;
 
-// The entries of a list by their numbers, in a table that is made once.
+// A table of the entries of a list by number, which is made once.
 //
-// As far as numbers ascend from the beginning on, an entry is searched in the list itself, and takes no memory. The
-// entries behind that beginning, if there are any, are cached by their number.
+// As far as numbers ascend from the beginning of the list on, an entry is searched in the list itself, without memory
+// of its own. Entries after that, if any, are cached by their number.
 pub(crate) struct NumberedTable<'a, T: Numbered> {
     entries: &'a [T],
     ascending: usize,
     known: BTreeMap<u32, &'a T>,
 }
 
-// Clauses see a table as the list of the entries.
+// Contracts see a table as the list of entries.
 impl<'a, T: Numbered> Model for NumberedTable<'a, T> {
     ghost use Rattle.std.specs.Prelude.{◌≤◌, List, drop, length, take};
     ghost use Rattle.pdb_types.specs.Ascending.{Ascends};

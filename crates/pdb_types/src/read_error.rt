@@ -1,4 +1,4 @@
-//! Why a type or an id can't be read, and which part of the records is broken where one is.
+//! `ReadError`: why a type or an id can't be read, and which part of the records is broken, if one is.
 
 ghost use Rattle.std.specs.Prelude.{◌≡◌};
 
@@ -8,9 +8,9 @@ use std::alloc::AllocError;
 /// A part of the records that may be broken by itself, by module index.
 #[derive(Clone, Copy, PartialEq, Eq, PartialOrd, Ord)]
 pub enum Part {
-    /// What a module imports.
+    /// The imports of a module.
     Imports(usize),
-    /// What a module exports.
+    /// The exports of a module.
     Exports(usize),
 }
 
@@ -19,13 +19,13 @@ pub enum Part {
 pub enum ReadError {
     /// No entry has this number.
     Missing(u32),
-    /// The entry is of a kind, with this number, that the reader of the records doesn't know.
+    /// The entry has a kind, with this number, that the reader of the records doesn't know.
     Unimplemented(u16),
-    /// There is no answer, and no part of the records is to blame.
+    /// The read is refused with this error, but no part of the records is broken.
     Refused(Error),
     /// A part of the records is broken, with this error.
     Broken(Part, Error),
-    /// Memory ran out. A later try may succeed.
+    /// Memory ran out. The same call may succeed later.
     OutOfMemory,
 }
 

@@ -1,4 +1,4 @@
-//! Indices that lead to other modules: imports, names of modules and exports, followed to the index there.
+//! Resolves cross-module indices: by the imports of a module, the name of the other module, and its exports.
 
 ghost use Rattle.std.specs.Prelude.{◌≡◌, Some};
 ghost use Rattle.pdb_errors.specs.Outcomes.{lent, streamed};
@@ -20,10 +20,10 @@ use pdb_records::{
     StringRef,
 };
 
-// The bit that marks an index that leads to another module.
+// The bit that marks a cross-module index.
 const CROSS_MODULE: u32 = 1 << 31;
 
-// A stream's content, or its fault as an error.
+// A stream's content, or the error of one that can't be read.
 fn streamed<A>(content: &Result<A, StreamError>) -> Result<&A>
     ensures { lent result ≡ streamed content.now }
 {
@@ -33,7 +33,7 @@ fn streamed<A>(content: &Result<A, StreamError>) -> Result<&A>
     }
 }
 
-// The index that was found under a number of a module's exports.
+// The index that was found for a number in a module's exports, or the error if there is none.
 fn found_export(local: u32, found: Option<u32>) -> Result<u32, ReadError>
     ensures { Matches (λ index. index) result (found_export local found) }
 {
@@ -59,14 +59,14 @@ impl<'a, P: ModuleProvider> TypeInputs<'a, P> {
         }
     }
 
-    // What the module at a module index imports.
+    // The imports of the module at a module index.
     fn imports(&self, module_index: usize) -> Result<&'a CrossModuleImports>
         ensures { lent result ≡ imports (link_inputs P.info self.now) module_index }
     {
         streamed(&self.module_info(module_index)?.imports)
     }
 
-    // What the module at a module index exports.
+    // The exports of the module at a module index.
     fn exports(&self, module_index: usize) -> Result<&'a CrossModuleExports>
         ensures { lent result ≡ exports (link_inputs P.info self.now) module_index }
     {
@@ -84,7 +84,7 @@ impl<'a, P: ModuleProvider> TypeInputs<'a, P> {
         }
     }
 
-    // The module index of the module whose name stands under a reference. It is looked for once.
+    // The module index of the module whose name has this reference. It is searched once.
     fn module_under(
         &self,
         cache: &mut TypeCache<'a>,
@@ -108,7 +108,7 @@ impl<'a, P: ModuleProvider> TypeInputs<'a, P> {
         Ok(module_index)
     }
 
-    // The index that the module at a module index exports under a number. Its exports are read once.
+    // The index that the module at a module index exports for a number. Its exports are read once.
     fn export_of(
         &self,
         cache: &mut TypeCache<'a>,
@@ -132,7 +132,7 @@ impl<'a, P: ModuleProvider> TypeInputs<'a, P> {
         found_export(local, found)
     }
 
-    // The index behind an import: the name of the other module, and the number there.
+    // The index to which an import leads, by the name of the other module and the number there.
     fn import_target(
         &self,
         cache: &mut TypeCache<'a>,
@@ -150,7 +150,7 @@ impl<'a, P: ModuleProvider> TypeInputs<'a, P> {
         self.export_of(cache, local, module_index)
     }
 
-    // What an index that leads to another module stands for, asked by the module at a module index.
+    // The index to which a cross-module index leads, if the module at a module index uses it.
     fn across(
         &self,
         cache: &mut TypeCache<'a>,
@@ -175,7 +175,7 @@ impl<'a, P: ModuleProvider> TypeInputs<'a, P> {
         }
     }
 
-    // What an index stands for, asked by the module at a module index.
+    // The index to which an index leads, if the module at a module index uses it. An ordinary index leads to itself.
     pub(crate) fn resolve(
         &self,
         cache: &mut TypeCache<'a>,

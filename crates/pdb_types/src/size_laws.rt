@@ -1,6 +1,6 @@
-//! What follows from the definition of a type's size, in words of its own.
+//! Laws on the sizes of types.
 //!
-//! Each function here does nothing. Its contract is a law, for all records, and the check proves it.
+//! Each function here does nothing. Its contract states a law, which the checker proves for all records.
 
 ghost use Rattle.std.specs.Prelude.{◌≡◌, ℕ, suc};
 ghost use Rattle.pdb_records.specs.Readings.{Read};
@@ -12,7 +12,7 @@ ghost use Rattle.pdb_types.specs.TypeInputs.{LinkInputs};
 ghost use Rattle.pdb_types.specs.TypeSizes.{no_size, step, type_size};
 ghost use Rattle.pdb_types.specs.SizeLaws.{EndsWith, NeverEnds, Leads};
 
-/// Where a chain of types ends, after however many steps, a type has the size at its end.
+/// If a chain of types ends, after any number of steps, each type in it has the size at its end.
 pub fn chains_that_end_have_the_size_at_their_end()
     ensures { (link : LinkInputs) (types : Read (Item TypeIndex TypeData)) (pointer module_index index steps : ℕ)
         (size : TypeSize)
@@ -20,14 +20,14 @@ pub fn chains_that_end_have_the_size_at_their_end()
         → type_size link types pointer module_index index ≡ size }
 {}
 
-/// Where a chain of types never ends, a type has no size, and no part of the records is met broken.
+/// If a chain of types never ends, a type has no size, and no part of the records is found broken.
 pub fn chains_that_never_end_have_no_size()
     ensures { (link : LinkInputs) (types : Read (Item TypeIndex TypeData)) (pointer module_index index : ℕ)
         → NeverEnds (step link types pointer module_index) index
         → type_size link types pointer module_index index ≡ no_size }
 {}
 
-/// Where a chain of types meets an index a second time, the type has no size: not the first one either.
+/// If a chain of types reaches an index a second time, the type has no size; nor has the first one.
 pub fn chains_that_repeat_have_no_size()
     ensures { (link : LinkInputs) (types : Read (Item TypeIndex TypeData))
         (pointer module_index index repeated before steps : ℕ)

@@ -1,11 +1,11 @@
-//! The size that a type itself says, and the type underneath an enumeration or a modifier.
+//! The size in a type's own record, and the type underneath an enumeration or a modifier.
 
 ghost use Rattle.std.specs.Prelude.{◌≡◌};
 ghost use Rattle.pdb_types.specs.Sizes.{pointer_size, primitive_size, variant_size, last_of, underneath, own_size};
 
 use pdb_records::{ArrayType, MachineType, PrimitiveKind, TypeData, TypeIndex, Variant};
 
-// How many bytes a pointer takes on a machine.
+// The size of a pointer on a machine, in bytes.
 pub(crate) fn pointer_size(machine: MachineType) -> u64
     ensures { result ≡ pointer_size machine }
 {
@@ -16,7 +16,7 @@ pub(crate) fn pointer_size(machine: MachineType) -> u64
     }
 }
 
-// How many bytes a value takes of a type that the compiler brings.
+// The size of a primitive type in bytes.
 pub(crate) fn primitive_size(kind: PrimitiveKind) -> u64
     ensures { result ≡ primitive_size kind }
 {
@@ -66,7 +66,7 @@ pub(crate) fn primitive_size(kind: PrimitiveKind) -> u64
     }
 }
 
-// How many bytes a named value of an enumeration takes.
+// The size of a named value of an enumeration, in bytes.
 fn variant_size(value: Variant) -> u64
     ensures { result ≡ variant_size value }
 {
@@ -78,7 +78,7 @@ fn variant_size(value: Variant) -> u64
     }
 }
 
-// How many bytes an array takes: its last dimension.
+// The size of an array in bytes: its last dimension.
 fn array_size(array: &ArrayType) -> u64
     ensures { result ≡ last_of array.now.first array.now.rest }
 {
@@ -89,7 +89,7 @@ fn array_size(array: &ArrayType) -> u64
     u64::from(size)
 }
 
-// The type whose size an enumeration or a modifier has.
+// The type whose size an enumeration or a modifier takes over.
 pub(crate) fn underneath(type_data: &TypeData) -> Option<TypeIndex>
     ensures { result ≡ underneath type_data.now }
 {
@@ -100,7 +100,7 @@ pub(crate) fn underneath(type_data: &TypeData) -> Option<TypeIndex>
     }
 }
 
-// The size that a type itself says, by the size of a pointer.
+// The size in a type's own record, by the size of a pointer.
 pub(crate) fn own_size(pointer: u64, type_data: &TypeData) -> u64
     ensures { result ≡ own_size pointer type_data.now }
 {

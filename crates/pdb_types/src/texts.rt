@@ -1,4 +1,4 @@
-//! The texts of the string table, each found by its reference in a table that is made once.
+//! `Texts`: a table of the strings of the string table by reference.
 
 ghost use Rattle.std.specs.Prelude.{◌≡◌, IfOk};
 ghost use Rattle.std.specs.Option.{option_copied};
@@ -18,7 +18,7 @@ impl Numbered for (StringRef, RawString) {
     }
 }
 
-// The texts that the records share, each found by its reference in a table that is made once.
+// The strings of the string table, found by reference. The table is made once.
 pub(crate) struct Texts<'a> {
     strings: NumberedTable<'a, (StringRef, RawString)>,
 }
@@ -39,7 +39,7 @@ impl Drop for Texts<'_> {
 }
 
 impl<'a> Texts<'a> {
-    // A table of all texts.
+    // Makes a table of all strings.
     pub(crate) fn new(alloc: Global, strings: &'a StringTable) -> Result<Self, AllocError>
         ensures { IfOk result (λ texts. texts ≡ strings.now) }
     {
@@ -47,7 +47,7 @@ impl<'a> Texts<'a> {
         Ok(Texts { strings })
     }
 
-    // The text of the first entry with this reference.
+    // The string of the first entry with this reference.
     pub(crate) fn get(&self, reference: StringRef) -> Option<&'a RawString>
         ensures { option_copied result ≡ string_at reference self.now }
     {

@@ -1,4 +1,4 @@
-//! The type cache: what was found of types, ids and exports so far, and the parts that failed.
+//! `TypeCache`: what was found of types, ids and exports so far, and the parts that failed.
 
 ghost use Rattle.std.specs.Prelude.{◌≡◌, ℕ, [], None};
 ghost use Rattle.std.specs.FinMap.{nat_cmp-IsAntisymmetric};
@@ -17,14 +17,14 @@ use pdb_tables::{Once, OnceMap};
 use std::alloc::Global;
 use std::collections::BTreeMap;
 
-// A question for a size: the module index of the module that asks, and the index as it writes it.
+// A question for a type's size: the module index of the module that asks, and the index that it uses.
 #[derive(Clone, Copy, PartialEq, Eq, PartialOrd, Ord)]
 pub struct SizeQuestion {
     pub(crate) module_index: usize,
     pub(crate) index: u32,
 }
 
-// It is found once for each question.
+// A size is computed once for each question.
 impl Once<SizeQuestion> for TypeSize {
     ghost Source = { ℕ → ℕ → TypeSize };
 
@@ -37,7 +37,7 @@ impl Once<SizeQuestion> for TypeSize {
 #[derive(Clone, Copy)]
 pub(crate) struct NamedModule(pub(crate) usize);
 
-// It is found once for each reference.
+// A module index is searched once for each reference.
 impl Once<u32> for NamedModule {
     ghost Source = { LinkInputs };
 
@@ -46,23 +46,23 @@ impl Once<u32> for NamedModule {
     ghost antisymmetric = { nat_cmp-IsAntisymmetric };
 }
 
-/// The type cache: what was found of the records so far. It grows, and is asked before the records are read again.
+/// The type cache: what was found in the records so far. It is searched before the records are read.
 ///
-/// Of all this, later answers show nothing but the parts that failed.
+/// Only the failed parts can change a later answer.
 pub struct TypeCache<'a> {
-    // The entries of types.
+    // Finds types by their index.
     pub(crate) types: TypeMap<'a>,
-    // The entries of ids.
+    // Finds ids by their index.
     pub(crate) ids: IdMap<'a>,
     // Module indices, by the references of the modules' names.
     pub(crate) named: OnceMap<u32, NamedModule>,
-    // What modules export, by module index.
+    // The exports of modules, by module index.
     pub(crate) exports: OnceMap<usize, ExportTable<'a>>,
-    // The sizes of forward references, by their numbers: of all of them, or nothing yet.
+    // The sizes of all forward references, by the numbers of their indices; `None` until one is needed.
     pub(crate) forward_sizes: Option<BTreeMap<u32, u64>>,
-    // Sizes of types.
+    // The sizes of types.
     pub(crate) sizes: OnceMap<SizeQuestion, TypeSize>,
-    /// The parts of the records that were met broken.
+    /// The parts of the records that were found broken.
     pub failed: FailedParts,
 }
 
@@ -81,7 +81,7 @@ impl Drop for TypeCache<'_> {
 }
 
 impl<'a> TypeCache<'a> {
-    // Nothing yet. It takes no memory.
+    // An empty cache. It takes no memory.
     pub(crate) fn new(alloc: Global, types: &'a TypeInformation, ids: &'a IdInformation) -> Self
         ensures types { result.types ≡ types.now.items }
         ensures ids { result.ids ≡ ids.now.items }

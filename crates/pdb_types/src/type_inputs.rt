@@ -1,4 +1,4 @@
-//! The type inputs: what answers about types are computed from, and is only read.
+//! `TypeInputs`: the data from which answers about types are computed.
 
 ghost use Rattle.std.specs.Prelude.{◌≡◌, [], IfOk, OnOk, OnErr};
 ghost use Rattle.pdb_errors.specs.Errors.{error_view};
@@ -22,7 +22,7 @@ use pdb_records::{
 use std::alloc::{AllocError, Global};
 use std::marker::Model;
 
-/// The type inputs: what answers about types are computed from. They are only read.
+/// The type inputs: the data from which answers about types are computed. They are only read.
 pub struct TypeInputs<'a, P: ModuleProvider> {
     pub(crate) alloc: Global,
     pub(crate) provider: &'a P,
@@ -75,7 +75,7 @@ fn program_pointer_size(machine_type: &Result<MachineType, StreamError>) -> Resu
     }
 }
 
-// A table of the texts, where there are any.
+// A table of the strings, if there are any.
 fn texts_of(alloc: Global, strings: Option<&StringTable>) -> Result<Option<Texts<'_>>, AllocError>
     ensures { IfOk result (λ texts. texts ≡ option_copied strings.entry) }
 {
@@ -89,11 +89,11 @@ fn texts_of(alloc: Global, strings: Option<&StringTable>) -> Result<Option<Texts
 }
 
 impl<'a, P: ModuleProvider> TypeInputs<'a, P> {
-    /// The type inputs of these records. Of the debug information they take the machine alone.
+    /// Makes the type inputs of these records. Of the debug information only the machine is used.
     ///
     /// # Errors
     ///
-    /// [`Error::PdbError`] where the machine could not be read.
+    /// [`Error::PdbError`] if the machine can't be read.
     pub fn new(
         alloc: Global,
         provider: &'a P,
@@ -136,19 +136,19 @@ impl<'a, P: ModuleProvider> TypeInputs<'a, P> {
         self.modules.modules()
     }
 
-    /// Where memory comes from.
+    /// The allocator.
     pub fn allocator(&self) -> Global {
         self.alloc
     }
 
-    /// How signatures are printed.
+    /// The flags for printing signatures.
     pub fn flags(&self) -> TypeFormatterFlags
         ensures { result ≡ self.now.flags }
     {
         self.flags
     }
 
-    /// The type cache in which nothing was found yet. It takes no memory.
+    /// An empty type cache. It takes no memory.
     pub fn empty_cache(&self) -> TypeCache<'a>
         ensures is_cache { IsCacheOf P.info self.now result }
         ensures failed { result.failed ≡ [] }
@@ -156,8 +156,8 @@ impl<'a, P: ModuleProvider> TypeInputs<'a, P> {
         TypeCache::new(self.alloc, self.types, self.ids)
     }
 
-    /// Remembers the part of the records that was met broken, if one was. Answers `AllocError` where memory runs out,
-    /// and the failed parts stay.
+    /// Remembers a part of the records that was found broken, if there is one. `AllocError` if memory runs out; then
+    /// the failed parts don't change.
     pub fn remember(&self, cache: &mut TypeCache<'a>, met: Option<Part>) -> Result<(), AllocError>
         requires is_cache { IsCacheOf P.info self.now cache.old }
         ensures is_cache { IsCacheOf P.info self.now cache.new }
@@ -167,8 +167,8 @@ impl<'a, P: ModuleProvider> TypeInputs<'a, P> {
         cache.failed.add_met(met)
     }
 
-    /// What a part that is met broken answers: its own error where it is new, and then it is remembered,
-    /// else that it failed before. Answers `AllocError` where memory runs out, and the failed parts stay.
+    /// The error for a part that was found broken: its own error the first time, when it is remembered; later the error
+    /// that it failed before. `AllocError` if memory runs out; then the failed parts don't change.
     pub fn fail(
         &self,
         cache: &mut TypeCache<'a>,

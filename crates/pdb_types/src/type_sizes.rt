@@ -1,4 +1,4 @@
-//! The size of a type: that at the end of its chain of enumerations and modifiers, cached by index.
+//! Computes the size of a type: that at the end of its chain of enumerations and modifiers, cached by index.
 
 ghost use Rattle.std.specs.Prelude.{◌≡◌, [], ℕ, true, Ok, IfOk, IfErr, MatchResult};
 ghost use Rattle.std.specs.List.{AllByRecursion};
@@ -21,29 +21,29 @@ use pdb_errors::{Error, Result};
 use pdb_records::{ModuleProvider, TypeData, TypeIndex};
 use std::collections::BTreeSet;
 
-/// A size in bytes, and the part of the records that was met broken on the way to it.
+/// The size of a type, and the part of the records that was found broken on the way to it.
 #[derive(Clone, Copy)]
 pub struct TypeSize {
     /// The size in bytes.
     pub size: u64,
-    /// The part that was met broken, if one was.
+    /// The part that was found broken, if one was.
     pub met: Option<Part>,
 }
 
-// The size of a type that can't be read, or that is underneath itself.
+// The size of a type that can't be read, or whose chain is circular.
 const NO_SIZE: TypeSize = TypeSize { size: 0, met: None };
 
-// How a chain of types goes on.
+// The next step of a chain of types.
 #[derive(Clone, Copy)]
 pub(crate) enum Step {
-    // It ends here.
+    // The chain ends here, with this size.
     Ended(TypeSize),
-    // It has the size of this type.
+    // The chain continues with this type.
     Next(TypeIndex),
 }
 
 impl<'a, P: ModuleProvider> TypeInputs<'a, P> {
-    // The size that the definition behind a forward reference has. The list is read once for all.
+    // The size in the definition for a forward reference. The list is read once for all of them.
     fn forward_size(&self, cache: &mut TypeCache<'a>, resolved: TypeIndex) -> Result<Option<u64>>
         requires is_cache { IsCacheOf P.info self.now cache.old }
         ensures answer { MatchResult result
@@ -62,7 +62,7 @@ impl<'a, P: ModuleProvider> TypeInputs<'a, P> {
         Ok(size)
     }
 
-    // The size of a type with this index that is no enumeration and no modifier.
+    // The size of a type with this index that isn't an enumeration or a modifier.
     fn end_size(
         &self,
         cache: &mut TypeCache<'a>,
@@ -86,7 +86,7 @@ impl<'a, P: ModuleProvider> TypeInputs<'a, P> {
         }
     }
 
-    // What follows an index in a chain of types.
+    // The step after an index in a chain of types.
     fn step(&self, cache: &mut TypeCache<'a>, module_index: usize, index: TypeIndex) -> Result<Step>
         requires is_cache { IsCacheOf P.info self.now cache.old }
         ensures answer { MatchResult result
@@ -114,7 +114,7 @@ impl<'a, P: ModuleProvider> TypeInputs<'a, P> {
         }
     }
 
-    // The size at the end of a chain, and the indices that were passed on the way to it.
+    // The size at the end of a chain. The indices on the way to it are added to `passed`.
     fn chain_size(
         &self,
         cache: &mut TypeCache<'a>,
@@ -191,11 +191,11 @@ impl<'a, P: ModuleProvider> TypeInputs<'a, P> {
         Ok(())
     }
 
-    /// The size of a type, asked by the module at a module index, and the part that was met broken.
+    /// The size of a type with an index that the module at a module index uses, and the part that was found broken.
     ///
-    /// Each index of a chain of types is read once, whatever is asked of the chain afterwards.
+    /// Each index of a chain of types is read once, also if other sizes in the chain are asked for later.
     ///
-    /// Answers `OutOfMemory` where memory runs out.
+    /// `OutOfMemory` if memory runs out.
     pub fn type_size(
         &self,
         cache: &mut TypeCache<'a>,

@@ -16,7 +16,7 @@ image_file_machine_arm64 = 0xaa64
 abbrev pub arm64_entry : List ℕ → Arm64Entry
 arm64_entry bytes = record { begin = little_number 4 bytes; unwind = little_number 4 (drop 4 bytes) }
 
--- how many entries a directory has: as many as its size says and as its section has bytes for
+-- the number of entries in a directory: as many as its size allows and as its section has bytes for
 abbrev pub arm64_entry_count : DataDirectory → List ℕ → ℕ
 arm64_entry_count directory bytes = min directory.size (length bytes) / 8
 
@@ -27,6 +27,6 @@ arm64_entries_in program (Some directory) =
     let bytes = bytes_from program directory.rva in
     entries arm64_entry 8 (arm64_entry_count directory bytes) bytes
 
--- the entries of the exception directory of a program for ARM64, in its order; none where it has no such directory
+-- the entries of the exception directory of a program for ARM64, in file order; none if it has no such directory
 abbrev pub arm64_entries : Program → List Arm64Entry
 arm64_entries program = arm64_entries_in program (directory program image_directory_entry_exception)

@@ -22,7 +22,7 @@ debug_entry bytes = record {
   file_offset = little_number 4 (drop 24 bytes);
 }
 
--- how many entries a directory has: as many as its size says and as its section has bytes for
+-- the number of entries in a directory: as many as its size allows and as its section has bytes for
 abbrev pub debug_entry_count : DataDirectory → List ℕ → ℕ
 debug_entry_count directory bytes = min directory.size (length bytes) / 28
 
@@ -33,10 +33,10 @@ debug_entries_in program (Some directory) =
     let bytes = bytes_from program directory.rva in
     entries debug_entry 28 (debug_entry_count directory bytes) bytes
 
--- the entries of a program's debug directory, in its order; none where it has no such directory
+-- the entries of a program's debug directory, in file order; none if it has no such directory
 abbrev pub debug_entries : Program → List DebugEntry
 debug_entries program = debug_entries_in program (directory program image_directory_entry_debug)
 
--- the bytes of a piece of debug information, if the file has so many
+-- the bytes of a piece of debug information; absent if the file has fewer
 abbrev pub debug_data : Program → DebugEntry → Option (List ℕ)
 debug_data program entry = bytes_at program.file entry.file_offset entry.size

@@ -6,7 +6,7 @@ use Rattle.pe_image.specs.Image.{Program, bytes_from, directory}
 use Rattle.pe_image.specs.declared.exception_directory.FunctionEntry.{FunctionEntry}
 use Rattle.pe_image.specs.declared.image.DataDirectory.{DataDirectory}
 
--- IMAGE_DIRECTORY_ENTRY_EXCEPTION, the position of the exception directory among the data directories
+-- IMAGE_DIRECTORY_ENTRY_EXCEPTION, the index of the exception directory in the list of data directories
 abbrev pub image_directory_entry_exception : ℕ
 image_directory_entry_exception = 3
 
@@ -18,7 +18,7 @@ function_entry bytes = record {
   info = little_number 4 (drop 8 bytes);
 }
 
--- how many entries a directory has: as many as its size says and as its section has bytes for
+-- the number of entries in a directory: as many as its size allows and as its section has bytes for
 abbrev pub entry_count : DataDirectory → List ℕ → ℕ
 entry_count directory bytes = min directory.size (length bytes) / 12
 
@@ -29,6 +29,6 @@ entries_in program (Some directory) =
     let bytes = bytes_from program directory.rva in
     entries function_entry 12 (entry_count directory bytes) bytes
 
--- the entries of a program's exception directory, in its order; none where it has no such directory
+-- the entries of a program's exception directory, in file order; none if there is no such directory
 abbrev pub function_entries : Program → List FunctionEntry
 function_entries program = entries_in program (directory program image_directory_entry_exception)

@@ -1,4 +1,4 @@
--- What the headers of a program say (an EXE or a DLL, PE32 or PE32+), and where their tables are.
+-- The headers of a program (an EXE or a DLL, PE32 or PE32+), and where their tables are.
 use Rattle.std.specs.Prelude.{ℕ, ◌+◌, ◌==◌, ◌&&◌, nat_le, min, List, Option, Some, None, if◌then◌else◌}
 use Rattle.pe_image.specs.NumbersAt.{◌>>=◌, number_at}
 use Rattle.pe_image.specs.declared.headers.Headers.{Headers}
@@ -14,7 +14,7 @@ image_dos_signature = 0x5a4d
 abbrev pub image_nt_signature : ℕ
 image_nt_signature = 0x4550
 
--- the offset of the COFF file header: behind the signature that e_lfanew, at 0x3c, is the offset of
+-- the offset of the COFF file header: after the signature, whose offset is e_lfanew, at 0x3c
 abbrev pub coff_header : List ℕ → Option ℕ
 coff_header file = do
   magic ← number_at 2 file 0
@@ -22,7 +22,7 @@ coff_header file = do
   signature ← number_at 4 file at
   if (magic == image_dos_signature) && (signature == image_nt_signature) then Some (at + 4) else None
 
--- PE32 or PE32+, by the number that the optional header begins with
+-- the form of the optional header, PE32 or PE32+, by its first number
 abbrev pub optional_form : ℕ → Option OptionalForm
 optional_form magic = if magic == 0x10b then Some Pe32 else if magic == 0x20b then Some Pe32Plus else None
 
@@ -42,16 +42,16 @@ directories_at form file optional = do
   count ← number_at 4 file (optional + directory_count_at form)
   Some (record { at = optional + directory_count_at form + 4; count = min count 16 })
 
--- the headers of the sections: behind the optional header, as many as NumberOfSections says; systems load no
--- program of more than 96
+-- the table of section headers: after the optional header, with NumberOfSections entries, at most 96 as in a program
+-- that systems load
 abbrev pub sections_at : List ℕ → ℕ → Option Table
 sections_at file coff = do
   count ← number_at 2 file (coff + 2)
   size ← number_at 2 file (coff + 16)
   if nat_le count 96 then Some (record { at = coff + 20 + size; count = count }) else None
 
--- what the headers of a program say, by the offset of its COFF file header: this begins with the machine, and has
--- TimeDateStamp at 4; of the optional header behind it SizeOfImage has one place in both forms
+-- the headers of a program, by the offset of its COFF file header. That header has the machine at 0 and TimeDateStamp
+-- at 4. In the optional header after it, SizeOfImage has the same offset in both forms
 abbrev pub headers_at : List ℕ → ℕ → Option Headers
 headers_at file coff = do
   machine ← number_at 2 file coff
@@ -71,6 +71,6 @@ headers_at file coff = do
     directories = directories;
   })
 
--- what the headers of a program say; a file without them is none
+-- the headers of a program; absent if the file has none
 abbrev pub headers_of : List ℕ → Option Headers
 headers_of file = coff_header file >>= headers_at file

@@ -12,7 +12,7 @@ use Rattle.pe_image.specs.declared.image.Section.{Section}
 abbrev pub image_file_machine_amd64 : ℕ
 image_file_machine_amd64 = 0x8664
 
--- a section of a program: where it is when the program is loaded, and where its bytes are in the file
+-- a section of a program: its address in the loaded program, and the range of its bytes in the file
 abbrev pub section_header : List ℕ → Section
 section_header bytes = record {
   rva = little_number 4 (drop 12 bytes);
@@ -34,7 +34,7 @@ is_executable section = section.characteristics / image_scn_mem_execute % 2 == 1
 abbrev pub data_directory : List ℕ → DataDirectory
 data_directory bytes = record { rva = little_number 4 bytes; size = little_number 4 (drop 4 bytes) }
 
--- a program: the bytes of its file, and what its headers say
+-- a program: the bytes of its file, and the fields of its headers
 pub record Program : Type 0 where
   pub file : List ℕ
   pub machine : ℕ
@@ -44,7 +44,7 @@ pub record Program : Type 0 where
   pub sections : List Section
   pub directories : List DataDirectory
 
--- the program in a file, by its headers: all headers of sections and all data directories must be there
+-- the program in a file, by its headers; absent if a section header or a data directory is missing
 abbrev pub program_by : List ℕ → Headers → Option Program
 program_by file headers = do
   sections ← bytes_at file headers.sections.at (40 * headers.sections.count)
@@ -59,11 +59,11 @@ program_by file headers = do
     directories = entries data_directory 8 headers.directories.count directories;
   })
 
--- the program that a file is, if it is one
+-- the program in a file, if it has one
 abbrev pub program_of : List ℕ → Option Program
 program_of file = headers_of file >>= program_by file
 
--- a section holds an address if the section's bytes in the file reach over it
+-- whether a section's bytes in the file include an address
 abbrev pub holds : ℕ → Section → Bool
 holds rva section = nat_le section.rva rva && nat_lt rva (section.rva + section.file_size)
 
@@ -71,15 +71,15 @@ holds rva section = nat_le section.rva rva && nat_lt rva (section.rva + section.
 abbrev pub section_bytes : List ℕ → ℕ → Section → List ℕ
 section_bytes file rva section = drop (rva - section.rva) (take section.file_size (drop section.file_offset file))
 
--- the bytes from an address on up to the end of its section; none where no section holds the address
+-- the bytes from an address to the end of its section; none if no section has the address
 abbrev pub bytes_in : List ℕ → ℕ → Option Section → List ℕ
 bytes_in file rva None = []
 bytes_in file rva (Some section) = section_bytes file rva section
 
--- the bytes from an address on: those of the first section that holds it
+-- the bytes from an address on, in the first section that has it
 abbrev pub bytes_from : Program → ℕ → List ℕ
 bytes_from program rva = bytes_in program.file rva (find (holds rva) program.sections)
 
--- the data directory at a position, if the program has so many
+-- the data directory at a position, if there is one
 abbrev pub directory : Program → ℕ → Option DataDirectory
 directory program position = slice_get program.directories position

@@ -1,4 +1,4 @@
-//! The exception directory of a program for ARM64.
+//! Reads the exception directory of a program for ARM64.
 //!
 //! It lists the functions, each with its packed unwind data or the address of its unwind info.
 
@@ -23,7 +23,7 @@ const ENTRY: usize = 8;
 pub struct Arm64Entry {
     /// The address of its first byte, relative to the image base.
     pub begin: u32,
-    /// UnwindData: by its low two bits packed data, or, if they are 0, the address of the unwind info.
+    /// UnwindData: the address of the unwind info if its low two bits are 0, otherwise packed unwind data.
     pub unwind: u32,
 }
 
@@ -34,7 +34,7 @@ pub fn is_arm64(image: &Image<'_>) -> bool
     image.machine == IMAGE_FILE_MACHINE_ARM64
 }
 
-/// The entries of the exception directory of a program for ARM64, in its order.
+/// The entries of the exception directory of a program for ARM64, in file order.
 pub fn arm64_entries(alloc: Global, image: &Image<'_>) -> Result<Vec<Arm64Entry>, AllocError>
     ensures answer { IfOk result (λ read. read.items ≡ arm64_entries image.now) }
 {
@@ -45,7 +45,7 @@ pub fn arm64_entries(alloc: Global, image: &Image<'_>) -> Result<Vec<Arm64Entry>
     arm64_entries_in(alloc, bytes, arm64_entry_count(directory, bytes))
 }
 
-// The entry that these bytes begin with.
+// Decodes the entry in the first 8 bytes.
 fn arm64_entry(bytes: &[u8]) -> Arm64Entry
     requires { 8 ≤ length bytes.now }
     ensures { result ≡ arm64_entry bytes.now }
@@ -56,7 +56,7 @@ fn arm64_entry(bytes: &[u8]) -> Arm64Entry
     }
 }
 
-// How many entries a directory has.
+// How many entries a directory has: as many as its size says, if its section has bytes for them.
 fn arm64_entry_count(directory: DataDirectory, bytes: &[u8]) -> usize
     ensures answer { result ≡ arm64_entry_count directory bytes.now }
     ensures room { 8 * result ≤ length bytes.now }
@@ -64,7 +64,7 @@ fn arm64_entry_count(directory: DataDirectory, bytes: &[u8]) -> usize
     bytes.len().min(directory.size as usize) / ENTRY
 }
 
-// So many entries.
+// Decodes the first `count` entries.
 fn arm64_entries_in(
     alloc: Global,
     bytes: &[u8],

@@ -1,4 +1,4 @@
-//! The debug directory of a program: which debug information it has, and where this is in the file.
+//! Reads the debug directory of a program: which debug data it has, and where this is in the file.
 
 ghost use Rattle.std.specs.Prelude.{◌≡◌, ◌≤◌, ◌*◌, length, IfOk};
 ghost use Rattle.pe_image.specs.NumbersAt.{entries};
@@ -9,27 +9,27 @@ use crate::numbers_at::bytes_at;
 use byteorder::{ByteOrder, LittleEndian};
 use std::alloc::{AllocError, Global};
 
-/// The position of the debug directory among the data directories.
+/// The index of the debug directory in the list of data directories.
 const IMAGE_DIRECTORY_ENTRY_DEBUG: usize = 6;
 
-/// The type of debug information by which a program names its PDB file.
+/// The type of debug data that names the PDB file of a program.
 pub const IMAGE_DEBUG_TYPE_CODEVIEW: u32 = 2;
 
 /// The size of an entry in bytes.
 const ENTRY: usize = 28;
 
-/// A piece of debug information (IMAGE_DEBUG_DIRECTORY).
+/// An entry of the debug directory (IMAGE_DEBUG_DIRECTORY).
 #[derive(Debug, Clone, Copy, PartialEq, Eq)]
 pub struct DebugEntry {
-    /// Its type, such as [`IMAGE_DEBUG_TYPE_CODEVIEW`].
+    /// The type of its debug data, such as [`IMAGE_DEBUG_TYPE_CODEVIEW`].
     pub kind: u32,
-    /// SizeOfData: how many bytes it has.
+    /// SizeOfData: the size of its debug data in bytes.
     pub size: u32,
-    /// PointerToRawData: the offset of its bytes in the file.
+    /// PointerToRawData: the offset of its debug data in the file.
     pub file_offset: u32,
 }
 
-/// The entries of a program's debug directory, in its order.
+/// The entries of a program's debug directory, in file order.
 pub fn debug_entries(alloc: Global, image: &Image<'_>) -> Result<Vec<DebugEntry>, AllocError>
     ensures answer { IfOk result (λ read. read.items ≡ debug_entries image.now) }
 {
@@ -44,7 +44,7 @@ impl<'a> Image<'a> {
     ghost use Rattle.std.specs.Prelude.{option_map};
     ghost use Rattle.pe_image.specs.DebugDirectory.{debug_data};
 
-    /// The bytes of a piece of debug information, or `None` if the file has not so many.
+    /// The debug data of an entry; `None` if the file ends before its end.
     pub fn debug_data(&self, entry: DebugEntry) -> Option<&'a [u8]>
         ensures answer { option_map (λ found. found.now) result ≡ debug_data self.now entry }
     {
@@ -52,7 +52,7 @@ impl<'a> Image<'a> {
     }
 }
 
-// The entry that these bytes begin with.
+// Decodes the entry in the first 28 bytes.
 fn debug_entry(bytes: &[u8]) -> DebugEntry
     requires { 28 ≤ length bytes.now }
     ensures { result ≡ debug_entry bytes.now }
@@ -64,7 +64,7 @@ fn debug_entry(bytes: &[u8]) -> DebugEntry
     }
 }
 
-// How many entries a directory has.
+// How many entries a directory has: as many as its size says, if its section has bytes for them.
 fn debug_entry_count(directory: DataDirectory, bytes: &[u8]) -> usize
     ensures answer { result ≡ debug_entry_count directory bytes.now }
     ensures room { 28 * result ≤ length bytes.now }
@@ -72,7 +72,7 @@ fn debug_entry_count(directory: DataDirectory, bytes: &[u8]) -> usize
     bytes.len().min(directory.size as usize) / ENTRY
 }
 
-// So many entries.
+// Decodes the first `count` entries.
 fn debug_entries_in(
     alloc: Global,
     bytes: &[u8],

@@ -1,4 +1,4 @@
-//! The exception directory of a program: its functions, each with the address of its unwind info.
+//! Reads the exception directory of a program: its functions, each with the address of its unwind info.
 
 ghost use Rattle.std.specs.Prelude.{◌≡◌, ◌≤◌, ◌*◌, length, IfOk};
 ghost use Rattle.pe_image.specs.NumbersAt.{entries};
@@ -8,7 +8,7 @@ use crate::image::{DataDirectory, Image};
 use byteorder::{ByteOrder, LittleEndian};
 use std::alloc::{AllocError, Global};
 
-/// The position of the exception directory among the data directories.
+/// The index of the exception directory in the list of data directories.
 pub(crate) const IMAGE_DIRECTORY_ENTRY_EXCEPTION: usize = 3;
 
 /// The size of an entry in bytes.
@@ -17,15 +17,16 @@ const ENTRY: usize = 12;
 /// A function of a program (RUNTIME_FUNCTION). Addresses are relative to the image base.
 #[derive(Debug, Clone, Copy, PartialEq, Eq)]
 pub struct FunctionEntry {
-    /// The address of its first byte.
+    /// The address of the function's first byte.
     pub begin: u32,
-    /// The address behind its last byte.
+    /// The address just after the function's last byte.
     pub end: u32,
-    /// The address of its unwind info. If the lowest bit is set, that of another entry, with this bit taken off.
+    /// The address of the function's unwind info. If the lowest bit is set, the other bits are the address of another
+    /// entry whose unwind info counts.
     pub info: u32,
 }
 
-/// The entries of a program's exception directory, in its order.
+/// The entries of a program's exception directory, in file order. None if there is no such directory.
 pub fn function_entries(alloc: Global, image: &Image<'_>) -> Result<Vec<FunctionEntry>, AllocError>
     ensures answer { IfOk result (λ read. read.items ≡ function_entries image.now) }
 {
@@ -36,7 +37,7 @@ pub fn function_entries(alloc: Global, image: &Image<'_>) -> Result<Vec<Function
     entries_in(alloc, bytes, entry_count(directory, bytes))
 }
 
-/// The entry that these bytes begin with.
+/// Decodes the entry in the first 12 bytes.
 pub fn function_entry_at(bytes: &[u8]) -> FunctionEntry
     requires { 12 ≤ length bytes.now }
     ensures { result ≡ function_entry bytes.now }
@@ -48,7 +49,7 @@ pub fn function_entry_at(bytes: &[u8]) -> FunctionEntry
     }
 }
 
-// How many entries a directory has.
+// How many entries a directory has: as many as its size says, if its section has bytes for them.
 fn entry_count(directory: DataDirectory, bytes: &[u8]) -> usize
     ensures answer { result ≡ entry_count directory bytes.now }
     ensures room { 12 * result ≤ length bytes.now }
@@ -56,7 +57,7 @@ fn entry_count(directory: DataDirectory, bytes: &[u8]) -> usize
     bytes.len().min(directory.size as usize) / ENTRY
 }
 
-// So many entries.
+// Decodes the first `count` entries.
 fn entries_in(alloc: Global, bytes: &[u8], count: usize) -> Result<Vec<FunctionEntry>, AllocError>
     requires { 12 * count ≤ length bytes.now }
     ensures { IfOk result (λ read. read.items ≡ entries function_entry 12 count bytes.now) }

@@ -1,4 +1,4 @@
-//! What the headers of a program say (an EXE or a DLL, PE32 or PE32+), and where their tables are.
+//! Reads the headers of a program (an EXE or a DLL, PE32 or PE32+), and finds their tables.
 
 ghost use Rattle.std.specs.Prelude.{◌≡◌, ◌≤◌, ◌<◌, ◌+◌, ◌^◌, IfSome};
 ghost use Rattle.pe_image.specs.Headers.{coff_header, directories_at, directory_count_at, headers_at, headers_of};
@@ -18,10 +18,10 @@ const E_LFANEW: usize = 0x3c;
 /// The size of the COFF file header in bytes.
 const FILE_HEADER: usize = 20;
 
-/// How many data directories a program has at most.
+/// The maximum number of data directories.
 const IMAGE_NUMBEROF_DIRECTORY_ENTRIES: u32 = 16;
 
-/// How many sections a program has at most that systems load.
+/// The maximum number of sections of a program that Windows loads.
 const MOST_SECTIONS: u16 = 96;
 
 /// PE32 or PE32+.
@@ -31,14 +31,14 @@ enum OptionalForm {
     Pe32Plus,
 }
 
-/// Where a table of the headers is in the file, in bytes, and how many entries it has.
+/// A table of the headers: its offset in the file, and the number of its entries.
 #[derive(Clone, Copy)]
 pub(crate) struct Table {
     pub(crate) at: usize,
     pub(crate) count: usize,
 }
 
-/// What the headers of a program say, apart from their tables.
+/// The fields of a program's headers, and where their tables are.
 #[derive(Clone, Copy)]
 pub(crate) struct Headers {
     pub(crate) machine: u16,
@@ -49,7 +49,7 @@ pub(crate) struct Headers {
     pub(crate) directories: Table,
 }
 
-/// What the headers of a program say.
+/// Reads the headers of a program; `None` if the file isn't one.
 pub(crate) fn headers_of(file: &[u8]) -> Option<Headers>
     ensures answer { result ≡ headers_of file.now }
     ensures sections { IfSome result (λ headers. headers.sections.at < 2 ^ 33) }
@@ -74,7 +74,7 @@ fn coff_header(file: &[u8]) -> Option<usize>
     None
 }
 
-// What the headers say that begin at this offset of the COFF file header.
+// Reads the headers, whose COFF file header is at the offset `coff`.
 fn headers_at(file: &[u8], coff: usize) -> Option<Headers>
     requires { coff < 2 ^ 32 + 4 }
     ensures answer { result ≡ headers_at file.now coff }
@@ -101,7 +101,7 @@ fn headers_at(file: &[u8], coff: usize) -> Option<Headers>
     })
 }
 
-// PE32 or PE32+, by the number that the optional header begins with.
+// PE32 or PE32+, by the first number of the optional header.
 fn optional_form(magic: u16) -> Option<OptionalForm>
     ensures answer { result ≡ optional_form magic }
 {
@@ -126,7 +126,7 @@ fn image_base(form: OptionalForm, file: &[u8], optional: usize) -> Option<u64>
     }
 }
 
-// Where NumberOfRvaAndSizes is in the optional header.
+// The offset of NumberOfRvaAndSizes in the optional header.
 fn directory_count_at(form: OptionalForm) -> usize
     ensures answer { result ≡ directory_count_at form }
     ensures near { result ≤ 108 }
@@ -137,7 +137,7 @@ fn directory_count_at(form: OptionalForm) -> usize
     }
 }
 
-// Where the data directories are, and how many.
+// Finds the table of data directories.
 fn directories_at(form: OptionalForm, file: &[u8], optional: usize) -> Option<Table>
     requires { optional < 2 ^ 32 + 24 }
     ensures answer { result ≡ directories_at form file.now optional }
@@ -152,7 +152,7 @@ fn directories_at(form: OptionalForm, file: &[u8], optional: usize) -> Option<Ta
     })
 }
 
-// Where the headers of the sections are, and how many.
+// Finds the table of section headers.
 fn sections_at(file: &[u8], coff: usize) -> Option<Table>
     requires { coff < 2 ^ 32 + 4 }
     ensures answer { result ≡ sections_at file.now coff }

@@ -1,4 +1,4 @@
-//! A program (an EXE or a DLL, PE32 or PE32+): its sections, its data directories, and the bytes at its addresses.
+//! `Image`: a program (EXE or DLL, PE32 or PE32+) with its sections, data directories, and bytes by address.
 
 ghost use Rattle.std.specs.Prelude.{◌≡◌, ◌≤◌, ◌==◌, ◌*◌, drop, find, length, take, IfOk};
 ghost use Rattle.pe_image.specs.NumbersAt.{entries};
@@ -16,7 +16,7 @@ const SECTION_HEADER: usize = 40;
 /// The size of an entry of the data directories in bytes.
 const DIRECTORY: usize = 8;
 
-/// The bit in the characteristics of a section whose bytes can be executed.
+/// The flag of a section that is executable.
 pub const IMAGE_SCN_MEM_EXECUTE: u32 = 0x2000_0000;
 
 /// The machine of programs for x64.
@@ -33,14 +33,14 @@ pub struct Section {
     pub file_offset: u32,
     /// The number of its bytes in the file.
     pub file_size: u32,
-    /// What it is for, a bit for each purpose, such as [`IMAGE_SCN_MEM_EXECUTE`].
+    /// Flags of the section, such as [`IMAGE_SCN_MEM_EXECUTE`].
     pub characteristics: u32,
 }
 
 impl Section {
     ghost use Rattle.pe_image.specs.Image.{is_executable};
 
-    /// Whether the bytes of the section can be executed.
+    /// Whether the section is executable.
     pub fn is_executable(self) -> bool
         ensures { result ≡ is_executable self }
     {
@@ -57,16 +57,16 @@ pub struct DataDirectory {
     pub size: u32,
 }
 
-/// A program: the bytes of its file, and what its headers say.
+/// A program: the bytes of its file, and its headers.
 #[derive(Drop)]
 pub struct Image<'a> {
     pub file: &'a [u8],
-    /// [`IMAGE_FILE_MACHINE_AMD64`] for x64.
+    /// The machine, such as [`IMAGE_FILE_MACHINE_AMD64`] for x64.
     pub machine: u16,
-    /// TimeDateStamp: when the program was linked, in seconds since 1970, or a hash where the linker was told to make the
-    /// same file again.
+    /// TimeDateStamp: when the program was linked, in seconds since 1970. If the linker was told to make reproducible
+    /// files, this is a hash.
     pub time_stamp: u32,
-    /// The address that the program is linked for.
+    /// The address at which the program should be loaded (ImageBase).
     pub image_base: u64,
     /// SizeOfImage: the size of the loaded program in bytes.
     pub image_size: u32,
@@ -90,8 +90,8 @@ impl<'a> Model for Image<'a> {
     } };
 }
 
-/// The program that a file is, or `None` if it is no EXE or DLL, or one that no system loads (more than 96
-/// sections, headers that reach past the end of the file).
+/// Reads the headers of a program. `None` if the file isn't an EXE or a DLL, or can't be loaded by Windows: it has more
+/// than 96 sections, or headers that extend past its end.
 pub fn read_image(alloc: Global, file: &[u8]) -> Result<Option<Image<'_>>, AllocError>
     ensures answer { IfOk result (λ image. image ≡ program_of file.now) }
 {
@@ -133,8 +133,8 @@ impl<'a> Image<'a> {
         self.machine == IMAGE_FILE_MACHINE_AMD64
     }
 
-    /// The bytes from an address on, relative to the image base, up to the end of its section in the file. None where
-    /// no section holds the address.
+    /// The bytes from an address on, relative to the image base, up to the end of its section in the file. Empty if no
+    /// section contains the address.
     pub fn bytes_from(&self, rva: u32) -> &'a [u8]
         ensures answer { result.now ≡ bytes_from self.now rva }
     {
@@ -144,7 +144,7 @@ impl<'a> Image<'a> {
         }
     }
 
-    /// The data directory at a position, such as 3 for the exception directory.
+    /// The data directory at an index, such as 3 for the exception directory.
     pub fn directory(&self, position: usize) -> Option<DataDirectory>
         ensures answer { result ≡ directory self.now position }
     {
@@ -152,7 +152,7 @@ impl<'a> Image<'a> {
     }
 }
 
-// The section whose header these bytes begin with.
+// Decodes a section header.
 fn section_header(bytes: &[u8]) -> Section
     requires { 40 ≤ length bytes.now }
     ensures { result ≡ section_header bytes.now }
@@ -166,7 +166,7 @@ fn section_header(bytes: &[u8]) -> Section
     }
 }
 
-// The data directory whose entry these bytes begin with.
+// Decodes an entry of the data directories.
 fn data_directory(bytes: &[u8]) -> DataDirectory
     requires { 8 ≤ length bytes.now }
     ensures { result ≡ data_directory bytes.now }
@@ -177,7 +177,7 @@ fn data_directory(bytes: &[u8]) -> DataDirectory
     }
 }
 
-// The sections whose headers are in these bytes.
+// Decodes `count` section headers.
 fn sections_in(alloc: Global, bytes: &[u8], count: usize) -> Result<Vec<Section>, AllocError>
     requires { 40 * count ≤ length bytes.now }
     ensures { IfOk result (λ read. read.items ≡ entries section_header 40 count bytes.now) }
@@ -189,7 +189,7 @@ fn sections_in(alloc: Global, bytes: &[u8], count: usize) -> Result<Vec<Section>
     Ok(read)
 }
 
-// The data directories whose entries are in these bytes.
+// Decodes `count` entries of the data directories.
 fn directories_in(
     alloc: Global,
     bytes: &[u8],
@@ -205,14 +205,14 @@ fn directories_in(
     Ok(read)
 }
 
-// Whether a section holds an address.
+// Whether a section has bytes in the file for an address.
 fn holds(rva: u32, section: Section) -> bool
     ensures { result ≡ holds rva section }
 {
     section.rva <= rva && rva - section.rva < section.file_size
 }
 
-// The first section that holds an address.
+// The first section that has bytes in the file for an address.
 fn section_over(sections: &[Section], rva: u32) -> Option<Section>
     ensures { result ≡ find (holds rva) sections.now }
 {
@@ -233,7 +233,7 @@ fn section_bytes(file: &[u8], rva: u32, section: Section) -> &[u8]
     bytes_behind(bytes, rva.saturating_sub(section.rva) as usize)
 }
 
-// The bytes from an offset on, none where there are not so many.
+// The bytes from an offset on; none if there are fewer bytes.
 fn bytes_behind(bytes: &[u8], at: usize) -> &[u8]
     ensures { result.now ≡ drop at bytes.now }
 {
@@ -244,7 +244,7 @@ fn bytes_behind(bytes: &[u8], at: usize) -> &[u8]
     rest
 }
 
-// So many bytes, or all where there are fewer.
+// The first `count` bytes, or all if there are fewer.
 fn first_bytes(bytes: &[u8], count: usize) -> &[u8]
     ensures { result.now ≡ take count bytes.now }
 {

@@ -1,7 +1,7 @@
-//! The headers of a program (an EXE or a DLL, PE32 or PE32+), the bytes at its addresses, and its directories.
+//! Reads the headers of a program (an EXE or a DLL, PE32 or PE32+), the bytes at its addresses, and its directories.
 //!
-//! What each call answers is a definition over the bytes of the file, in specs/Headers.antt, specs/Image.antt and one
-//! file for each directory, and each call is proved to answer it, whatever the bytes are.
+//! The result of each call is defined over the bytes of the file, in specs/Headers.antt, specs/Image.antt and one file
+//! for each directory. Each call is proved to return it for all bytes.
 #![tactic(auto)]
 
 mod arm64_directory;

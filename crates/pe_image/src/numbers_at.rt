@@ -1,4 +1,4 @@
-//! Bytes and numbers at offsets in a list of bytes. Numbers have their lowest byte first.
+//! Reads bytes and little-endian numbers at offsets in a list of bytes.
 
 ghost use Rattle.std.specs.Prelude.{◌≡◌, IfSome, length, option_map};
 ghost use Rattle.pe_image.specs.NumbersAt.{bytes_at, number_at};

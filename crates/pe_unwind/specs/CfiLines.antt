@@ -1,4 +1,4 @@
--- The lines that show a function's rules: one for each change.
+-- The lines of a function's rules: one for each change.
 use Rattle.std.specs.Prelude.{◌≡◌, ℕ, ◌<◌, nat_le, List, [], ◌∷◌, length, Option, Some, None}
 use Rattle.std.specs.Prelude.{Result, Ok, Err, if◌then◌else◌}
 use Rattle.std.specs.Option.{option_or}
@@ -11,18 +11,18 @@ use Rattle.pe_unwind.specs.declared.rules.Rules.{Rules}
 abbrev pub shown_by : CfiLine → ℕ → Option Rules
 shown_by line offset = if nat_le line.offset offset then Some line.rules else None
 
--- the rules that lines show at an offset: those of the last line at the offset or before it
+-- the rules that lines show at an offset: those of the last line at or before the offset
 abbrev pub shown : List CfiLine → ℕ → Option Rules
 shown [] offset = None
 shown (line ∷ lines) offset = option_or (shown lines offset) (shown_by line offset)
 
--- lines stand in the order of their offsets, no two at one, and all before an offset
+-- lines are sorted by offset, with no two at one offset, and all before an offset
 abbrev pub Ascend : List CfiLine → ℕ → Type 0
 Ascend [] before = Unit {0}
 Ascend (line ∷ []) before = line.offset < before
 Ascend (line ∷ next ∷ lines) before = (line.offset < next.offset) × Ascend (next ∷ lines) before
 
--- lines show at each offset of a function the rules that the function has there; they show none that is refused
+-- lines show the rules of a function at each of its offsets; a refused function has no lines
 abbrev pub Show : List CfiLine → Result FunctionCode EntryError → Type 0
 Show lines (Ok f) = (offset : ℕ) → offset < length f.code → shown lines offset ≡ Some (rule_at f.function f.code offset)
 Show lines (Err refusal) = ⊥

@@ -44,7 +44,7 @@ name R15 = codes "$r15"
 abbrev pub hexadecimal : ℕ → List ℕ
 hexadecimal number = digits 16 false number
 
--- a number of 64 bits in decimal digits: from 2 ^ 63 on it is a negative one
+-- a 64-bit number in decimal digits; from 2 ^ 63 on it is negative
 abbrev pub signed_decimal : ℕ → List ℕ
 signed_decimal number =
     if nat_lt number (2 ^ 63) then decimal number else codes "-" ++ decimal (2 ^ 64 - number)
@@ -64,7 +64,7 @@ found_text own Unchanged = own
 found_text own (BelowCfa bytes) = codes ".cfa " ++ (signed_decimal bytes ++ codes " - ^")
 found_text own (At place) = place_text place ++ codes " ^"
 
--- an item: a space, a name, a colon, and how this is found
+-- an item: a space, a name, a colon, and how the register is found
 unfoldable pub item_text : CfiItem → List ℕ
 item_text (CfaItem cfa) = codes " .cfa: " ++ cfa_text cfa
 item_text (ReturnItem found) = codes " .ra: " ++ found_text (codes ".ra") found
@@ -83,20 +83,20 @@ later_text address old new =
     codes "STACK CFI " ++ (hexadecimal address
     ++ (flat_map item_text (later_items (written old) (written new)) ++ codes "\n"))
 
--- the records of the lines behind one with these rules
+-- the records of the lines after one with these rules
 abbrev pub later_texts : ℕ → Rules → List CfiLine → List ℕ
 later_texts begin old [] = []
 later_texts begin old (line ∷ lines) =
     later_text (begin + line.offset) old line.rules ++ later_texts begin line.rules lines
 
--- the records of a function, by the addresses that it begins and ends at and by its lines
+-- the records of a function, by its start and end addresses and its lines
 abbrev pub function_text : ℕ → ℕ → List CfiLine → List ℕ
 function_text begin end [] = []
 function_text begin end (line ∷ lines) =
     first_text begin (end - begin) line.rules ++ later_texts begin line.rules lines
 
--- a text has the records of an entry's function at its end: those of lines that ascend within the function, and that let
--- a reader know the function's rules
+-- a text ends with the records of an entry's function. Their lines ascend within the function, and a reader finds the
+-- function's rules in them
 abbrev pub ShowText : List ℕ → List ℕ → FunctionEntry → Result FunctionCode EntryError → Type 0
 ShowText old new entry found = (lines : List CfiLine)
     × (new ≡ old ++ function_text entry.begin entry.end lines)

@@ -1,4 +1,4 @@
--- Epilogues: the instructions that give a function's frame back and leave it, and the rules between them.
+-- Epilogues: the instructions that free a function's frame and leave the function, and the rules between them.
 use Rattle.std.specs.Prelude.{ℕ, zero, suc, ◌+◌, ◌-◌, ◌*◌, ◌/◌, ◌%◌, ◌^◌, ◌==◌, ◌&&◌, ◌||◌, Bool, not}
 use Rattle.std.specs.Prelude.{nat_le}
 use Rattle.std.specs.Prelude.{nat_lt, List, drop, length, slice_index, Option, Some, None, is_none}
@@ -12,11 +12,11 @@ use Rattle.pe_unwind.specs.declared.rules.Rules.{Rules}
 use Rattle.pe_unwind.specs.declared.rules.Unwound.{Unwound}
 use Rattle.pe_unwind.specs.declared.unwind_info.FrameRegister.{FrameRegister}
 
--- a number of one byte with a sign: a negative one as its two's complement in 64 bits
+-- a signed one-byte number; a negative one as its 64-bit two's complement
 abbrev pub signed_byte : ℕ → ℕ
 signed_byte byte = if nat_lt byte 128 then byte else byte + (2 ^ 64 - 2 ^ 8)
 
--- a number of four bytes with a sign: a negative one as its two's complement in 64 bits
+-- a signed four-byte number; a negative one as its 64-bit two's complement
 abbrev pub signed_number : ℕ → ℕ
 signed_number number = if nat_lt number (2 ^ 31) then number else number + (2 ^ 64 - 2 ^ 32)
 
@@ -24,7 +24,7 @@ signed_number number = if nat_lt number (2 ^ 31) then number else number + (2 ^ 
 abbrev pub operand : List ℕ → ℕ → ℕ
 operand code at = unwrap_or (number_at 4 code at) 0
 
--- whether code begins with a byte, and with two bytes, and is of so many bytes
+-- whether code begins with these two bytes, and has at least `size` bytes
 abbrev pub begins_with : ℕ → ℕ → ℕ → List ℕ → Bool
 begins_with a b size code = (slice_index code 0 == a) && (slice_index code 1 == b) && nat_le size (length code)
 
@@ -42,7 +42,7 @@ abbrev pub leas : ℕ → ℕ → ℕ → List ℕ → Bool
 leas number mode size code = not (number % 8 == 4)
     && begins_with (0x48 + number / 8) 0x8d size code && (slice_index code 2 == mode * 64 + 0x20 + number % 8)
 
--- the stack pointer behind a lea by a frame register, and the bytes behind it
+-- the stack pointer after a lea by a frame register, and the bytes after it
 abbrev pub lea_by : FrameRegister → List ℕ → Restored
 lea_by frame code =
     if leas (index frame.register) 1 4 code then record {
@@ -53,24 +53,24 @@ lea_by frame code =
       size = 7;
     } else record { stack = stack_top; size = 0 }
 
--- the same, if the function has a frame register
+-- the stack pointer after a lea by the frame register, if the function has one, and the bytes after it
 abbrev pub lea_if : Option FrameRegister → List ℕ → Restored
 lea_if None code = record { stack = stack_top; size = 0 }
 lea_if (Some frame) code = lea_by frame code
 
--- the stack pointer behind the instruction that gives the frame back, and how many bytes this is of; none if there is
--- no such instruction
+-- the stack pointer after the instruction that frees the frame, and the size of the instruction; none if there is no
+-- such instruction
 abbrev pub stack_restored : Option FrameRegister → List ℕ → Restored
 stack_restored frame code =
     if adds_byte code then record { stack = above stack_top (signed_byte (slice_index code 3)); size = 4 } else
     if adds_number code then record { stack = above stack_top (signed_number (operand code 3)); size = 7 } else
     lea_if frame code
 
--- whether a byte is that of a pop (58 + r)
+-- whether a byte is the opcode of a pop (58 + r)
 abbrev pub is_pop : ℕ → Bool
 is_pop byte = nat_le 0x58 byte && nat_lt byte 0x60
 
--- the pop that code begins with, if it does: 58 + r, or 41 58 + r for r8 to r15; pop rsp (5C) doesn't count, since no
+-- the pop at the start of code, if there is one: 58 + r, or 41 58 + r for r8 to r15. pop rsp (5C) doesn't count: no
 -- epilogue has it, and it is the second byte of pop r12
 abbrev pub first_pop : List ℕ → Option Pop
 first_pop code =
@@ -80,31 +80,31 @@ first_pop code =
     then Some (record { register = register (slice_index code 1 - 0x50); size = 2 }) else
     None
 
--- what a pop does: the register is saved where the stack pointer is, which moves by 8 bytes
+-- the effect of undoing a pop: the register is saved at the stack pointer, which then moves by 8 bytes
 abbrev pub pop_undone : Pop → Unwound → Unwound
 pop_undone pop u = popped 8 (with_saved pop.register u.stack u)
 
--- behind the pop that code begins with, what follows it does; where there is none, nothing is done
+-- passes the code after its first pop to a computation; without a pop, nothing is undone
 abbrev pub pops_by : (List ℕ → Unwound → Unwound × List ℕ)
     → List ℕ → Unwound → Option Pop → Unwound × List ℕ
 pops_by others code u None = (u, code)
 pops_by others code u (Some pop) = others (drop pop.size code) (pop_undone pop u)
 
--- what the pops undo that code begins with, at most so many, and the bytes behind them
+-- the effect of the first pops of code, at most this many, and the bytes after them
 abbrev pub pops_undone : ℕ → List ℕ → Unwound → Unwound × List ℕ
 pops_undone zero code u = (u, code)
 pops_undone (suc left) code u = pops_by (pops_undone left) code u (first_pop code)
 
--- what the pops undo that code begins with, and the bytes behind them; no function pops more than 16 registers
+-- the effect of the pops at the start of code, and the bytes after them; no function pops more than 16 registers
 unfoldable pub first_pops : List ℕ → Unwound → Unwound × List ℕ
 first_pops code u = pops_undone 16 code u
 
--- what is behind the pop that code begins with, and behind those that follow it
+-- the bytes after the first pop of code, and after those that follow it
 abbrev pub rest_by : (List ℕ → List ℕ) → List ℕ → Option Pop → List ℕ
 rest_by others code None = code
 rest_by others code (Some pop) = others (drop pop.size code)
 
--- the bytes behind the pops that code begins with, at most so many
+-- the bytes after the first pops of code, at most this many
 abbrev pub pops_rest : ℕ → List ℕ → List ℕ
 pops_rest zero code = code
 pops_rest (suc left) code = rest_by (pops_rest left) code (first_pop code)
@@ -115,14 +115,14 @@ returns code = (slice_index code 0 == 0xc3)
     || ((slice_index code 0 == 0xc2) && nat_le 3 (length code))
     || begins_with 0xf3 0xc3 2 code
 
--- whether a jump to an address leaves a function: to an address outside of it, or back to its start, unless its info is
+-- whether a jump to an address leaves a function: the address is outside the function, or its start unless its info is
 -- chained
 abbrev pub leaves_for : Function → ℕ → Bool
 leaves_for function target = nat_lt target function.begin || nat_le function.end target
     || ((target == function.begin) && is_none function.own.parent)
 
--- a jump out of the function, by an offset from the next instruction: jmp rel8 (EB cb) and jmp rel32 (E9 cd). What is
--- left of the function's code ends where the function does
+-- whether code begins with a jump out of the function, by an offset from the next instruction: jmp rel8 (EB cb) and jmp
+-- rel32 (E9 cd). The rest of the function's code ends where the function does
 abbrev pub jumps_out : Function → List ℕ → Bool
 jumps_out function code =
     ((slice_index code 0 == 0xeb) && nat_le 2 (length code)
@@ -134,7 +134,7 @@ jumps_out function code =
 abbrev pub jumps_through : List ℕ → Bool
 jumps_through code = begins_with 0xff 0x25 6 code
 
--- a jump through memory or by a register behind a prefix: 40 to 4F, then FF 25 cd; 48 to 4F, then FF E0 + r
+-- a jump through memory or by a register after a prefix: 40 to 4F, then FF 25 cd; 48 to 4F, then FF E0 + r
 abbrev pub jumps_prefixed : List ℕ → Bool
 jumps_prefixed code =
     ((slice_index code 0 / 16 == 4) && jumps_through (drop 1 code))
@@ -144,12 +144,12 @@ jumps_prefixed code =
 abbrev pub leaves : Function → List ℕ → Bool
 leaves function code = returns code || jumps_out function code || jumps_through code || jumps_prefixed code
 
--- the rules where pops stand in front of the instruction that leaves the function; none where no such one follows
+-- the rules before pops and an instruction that leaves the function; none if no such instruction follows
 abbrev pub rules_before : Function → Unwound × List ℕ → Option Rules
 rules_before function undone = if leaves function undone.1 then Some (rules_of undone.0) else None
 
--- the rules at an instruction of an epilogue of version 1, by the function's code from there on: at most one
--- instruction that gives the frame back, pops, and an instruction that leaves the function
+-- the rules at an instruction of a version 1 epilogue, by the function's code from there on: at most one instruction
+-- that frees the frame, pops, and an instruction that leaves the function
 abbrev pub epilogue_rules : Function → List ℕ → Option Rules
 epilogue_rules function code =
     let front = stack_restored function.own.frame code in
@@ -160,8 +160,7 @@ abbrev pub may_follow : ℕ → ℕ → Bool
 may_follow second third = (((second == 0x81) || (second == 0x83)) && (third == 0xc4))
     || ((second == 0x8d) && (third / 8 % 8 == 4)) || (second == 0xff) || is_pop second
 
--- whether three bytes may be the first of an epilogue: those of a prefix with what may follow it, of a return, of a jump
--- or of a pop
+-- whether three bytes may start an epilogue: a prefix with what may follow it, a return, a jump or a pop
 abbrev pub may_begin : ℕ → ℕ → ℕ → Bool
 may_begin first second third =
     if first / 16 == 4 then may_follow second third else

@@ -14,8 +14,8 @@ use Rattle.pe_unwind.specs.declared.unwind_errors.EntryError.{EntryError}
 use Rattle.pe_unwind.specs.declared.unwind_errors.EntryError.TheVariants.{Empty, OutsideOfImage, Overlapping}
 use Rattle.pe_unwind.specs.declared.rules.Rules.{Rules}
 
--- the code of a function: it begins at or behind an address, up to which the functions before it reach, ends behind its
--- start, and the image has bytes for all of it
+-- the code of a function. It must begin at or after the address up to which the functions before it reach, must not be
+-- empty, and the image must have all its bytes
 abbrev pub code_of : Program → ℕ → FunctionEntry → Result (List ℕ) EntryError
 code_of program reach entry =
     if nat_le entry.end entry.begin then Err Empty else
@@ -23,35 +23,35 @@ code_of program reach entry =
     if nat_lt entry.begin reach then Err Overlapping else
     Ok (take (entry.end - entry.begin) (bytes_from program entry.begin))
 
--- code that a call answers, as bytes
+-- the code in a result, as bytes
 abbrev pub code_seen : Result (Bor (List ℕ)) EntryError → Result (List ℕ) EntryError
 code_seen (Ok code) = Ok code.now
 code_seen (Err refusal) = Err refusal
 
--- the unwind info of a function: its own, and those that this is chained to
+-- the unwind infos of a function: its own, and those to which it is chained
 abbrev pub function_of : Program → FunctionEntry → Result Function EntryError
 function_of program entry = do
   own ← info_at program entry.info
   parents ← parents_of program own.parent
   Ok (record { begin = entry.begin; end = entry.end; own = own; parents = parents })
 
--- whether an epilogue that isn't listed can be at an offset: behind the prologue, and anywhere if the info is chained
+-- whether an epilogue that isn't listed can be at an offset: after the prologue, and anywhere if the info is chained
 abbrev pub may_leave : Function → ℕ → Bool
 may_leave function offset = is_none (prologue_offset function.own offset) || is_some function.own.parent
 
--- the rules in an epilogue, by the function's code: those of an info of version 2 are listed; those of version 1 are
--- told by their code
+-- the rules in an epilogue, by the function's code: an info of version 2 lists its epilogues, and those of version 1
+-- are found in their code
 abbrev pub epilogue_at : Function → List ℕ → ℕ → Option Rules
 epilogue_at function code offset =
     if function.own.version == 2 then listed_rules function offset else
     if may_leave function offset then epilogue_rules function (drop offset code) else None
 
--- the rules at an offset of a function: those of the epilogue that it is in, else those of the unwind infos
+-- the rules at an offset of a function: those of its epilogue if it is in one, otherwise those of the unwind infos
 unfoldable pub rule_at : Function → List ℕ → ℕ → Rules
 rule_at function code offset =
     unwrap_or (epilogue_at function code offset) (body_rules function (prologue_offset function.own offset))
 
--- whether a function's rules at an offset are those of its body: the offset is behind the prologue, and in no epilogue
+-- whether a function's rules at an offset are those of its body: the offset is after the prologue, and in no epilogue
 abbrev pub is_plain : Function → List ℕ → ℕ → Bool
 is_plain function code offset =
     is_none (prologue_offset function.own offset) && is_none (epilogue_at function code offset)
@@ -61,13 +61,13 @@ pub record FunctionCode : Type 0 where
   pub function : Function
   pub code : List ℕ
 
--- the function of an entry with its code, behind functions that reach up to an address
+-- the function of an entry with its code, after functions that reach up to an address
 abbrev pub function_at : Program → ℕ → FunctionEntry → Result FunctionCode EntryError
 function_at program reach entry = do
   code ← code_of program reach entry
   function ← function_of program entry
   Ok (record { function = function; code = code })
 
--- the address that functions reach up to behind an entry: where this one ends, if its code isn't refused
+-- the address up to which functions reach after an entry: the end of this one, if its code isn't refused
 abbrev pub reach_behind : Program → ℕ → FunctionEntry → ℕ
 reach_behind program reach entry = if is_ok (code_of program reach entry) then entry.end else reach

@@ -1,5 +1,5 @@
--- Code that no entry of the exception directory covers. By the rules of x64 it is that of leaf functions: they don't
--- move the stack pointer, so the return address is where it points.
+-- Code without an entry in the exception directory. By the rules of x64 it belongs to leaf functions, which don't move
+-- the stack pointer; so the return address is where the stack pointer points.
 use Rattle.std.specs.Prelude.{ℕ, ◌+◌, ◌-◌, ◌^◌, ◌==◌, ◌&&◌, Bool, true, not, nat_lt, nat_le, min, max, filter}
 use Rattle.std.specs.Prelude.{List, [], ◌∷◌, ◌++◌, take, if◌then◌else◌}
 use Rattle.std.specs.List.{flat_map, list_all}
@@ -23,8 +23,8 @@ covers rva entry = nat_le entry.begin rva && nat_lt rva entry.end
 abbrev pub has : ℕ → CodeRun → Bool
 has rva run = nat_le run.begin rva && nat_lt rva run.end
 
--- whether entries ascend from an address on: each begins where the one before ends, or behind that; those that cover
--- nothing don't count
+-- whether entries ascend from an address on: each begins at or after the end of the one before; empty entries don't
+-- count
 abbrev pub ascend : ℕ → List FunctionEntry → Bool
 ascend reach [] = true
 ascend reach (entry ∷ entries) =
@@ -41,16 +41,17 @@ uncovered from to (entry ∷ entries) =
     if is_empty entry then uncovered from to entries else
     run_between from (min entry.begin to) ++ uncovered (max from entry.end) to entries
 
--- where the bytes of a section end: in memory or in the file, whichever comes first, and within 32 bits
+-- the end of a section: in memory or in the file, whichever comes first, and within 32 bits
 abbrev pub section_end : Section → ℕ
 section_end section = min (section.rva + min section.size section.file_size) (2 ^ 32 - 1)
 
--- the runs of a section that no entry covers: none if it can't be executed, or begins before the end of those before it
+-- the runs of a section that no entry covers; none if the section isn't executable, or begins before the end of those
+-- before it
 abbrev pub section_runs : List FunctionEntry → ℕ → Section → List CodeRun
 section_runs entries reach section =
     if is_executable section && nat_le reach section.rva then uncovered section.rva (section_end section) entries else []
 
--- the runs of sections that no entry covers, behind sections that reach up to an address
+-- the runs of sections that no entry covers, after sections that reach up to an address
 abbrev pub runs_of : List FunctionEntry → ℕ → List Section → List CodeRun
 runs_of entries reach [] = []
 runs_of entries reach (section ∷ sections) =
@@ -74,7 +75,7 @@ leaf_runs program entries =
     if ascend 0 entries
     then filter (λ run. not (is_padding program run)) (runs_of entries 0 program.sections) else []
 
--- the rules at each address of a leaf function: nothing is undone
+-- the rules at each address of a leaf function: there is nothing to undo
 abbrev pub leaf_rules : Rules
 leaf_rules = rules_of at_first
 

@@ -18,27 +18,27 @@ abbrev pub epilogue_info : Operation → Option ℕ
 epilogue_info (Epilogue info) = Some info
 epilogue_info operation = None
 
--- the register of a code that says that one was pushed
+-- the register of a push code
 abbrev pub pushed : Operation → Option Register
 pushed (Push register) = Some register
 pushed operation = None
 
--- how far an offset is behind the start of an epilogue, if it is in that epilogue: by the size of the function, the
--- size of the epilogue, and how far before the function's end it starts; an epilogue that starts before the function is
--- none
+-- the distance of an offset from the start of an epilogue, if it is in that epilogue. The epilogue is given by the size
+-- of the function, its own size, and how far before the function's end it starts. An epilogue that starts before the
+-- function doesn't count
 abbrev pub offset_in : ℕ → ℕ → ℕ → ℕ → Option ℕ
 offset_in function_size size distance offset =
     if nat_le distance function_size && nat_le (function_size - distance) offset
     && nat_lt offset (function_size - distance + size)
     then Some (offset - (function_size - distance)) else None
 
--- how far before the function's end an epilogue starts that a code behind the first one lists: the low eight bits are
--- the code's offset, and the others its operation info
+-- how far before the function's end an epilogue starts, by its code, unless that is the first one. The low eight bits
+-- are the code's offset, and the others its operation info
 abbrev pub distance_of : ℕ → ℕ → ℕ
 distance_of low high = low + high * 256
 
--- the same for the first epilogue that has the offset, among those that codes behind the first one list; a distance of
--- 0 fills the list up, and no offset of the function is so near to its end
+-- the distance of an offset from the start of the first epilogue that has it, among the epilogues of the codes after
+-- the first. A distance of 0 is padding of the list; no offset of the function is so near to its end
 abbrev pub in_others : ℕ → ℕ → ℕ → List UnwindCode → Option ℕ
 in_others function_size size offset [] = None
 in_others function_size size offset (code ∷ codes) =
@@ -47,8 +47,8 @@ in_others function_size size offset (code ∷ codes) =
     (in_others function_size size offset codes))
     (epilogue_info code.operation)
 
--- the same among all epilogues that are listed: the first code has the size of each epilogue in its offset, and an odd
--- operation info if one epilogue is at the function's end
+-- the distance of an offset from the start of the epilogue that has it, among all listed epilogues. The first code has
+-- the size of each epilogue in its offset; odd operation info means that one epilogue is at the function's end
 abbrev pub in_listed : ℕ → ℕ → List UnwindCode → Option ℕ
 in_listed function_size offset [] = None
 in_listed function_size offset (code ∷ codes) =
@@ -61,31 +61,31 @@ in_listed function_size offset (code ∷ codes) =
 abbrev pub pop_size : Register → ℕ
 pop_size register = if nat_lt (index register) 8 then 1 else 2
 
--- what the pop of a register undoes, by how many bytes of it and of the pops behind it have run: nothing if it has run
--- whole; else the register is saved where the stack pointer is, which moves by 8 bytes
+-- the effect of undoing the pop of a register after `run` bytes of it and of the pops after it have run: nothing if it
+-- has run completely. Otherwise the register is saved at the stack pointer, which then moves by 8 bytes
 abbrev pub pop_left : ℕ → Register → Unwound → Unwound
 pop_left run register u = if nat_le (pop_size register) run then u else popped 8 (with_saved register u.stack u)
 
--- the same, for a code of a register that was pushed; behind its pop so many fewer bytes have run
+-- the effect of undoing the pop for a push code; the pops after it have so many fewer bytes that have run
 abbrev pub code_left : Option Register → Popping → Popping
 code_left None p = p
 code_left (Some register) p = record { run = p.run - pop_size register; unwound = pop_left p.run register p.unwound }
 
--- the same for some codes, one after the other
+-- the effect of undoing the pops for some codes, in order
 abbrev pub codes_left : List UnwindCode → Popping → Popping
 codes_left [] p = p
 codes_left (code ∷ codes) p = codes_left codes (code_left (pushed code.operation) p)
 
--- the same for the codes of some infos
+-- the effect of undoing the pops for the codes of some infos
 abbrev pub infos_left : List Info → Popping → Popping
 infos_left [] p = p
 infos_left (info ∷ infos) p = infos_left infos (codes_left info.codes p)
 
--- nothing is undone, and so many bytes of an epilogue have run
+-- the state before anything is undone, after this many bytes of an epilogue have run
 abbrev pub all_left : ℕ → Popping
 all_left run = record { run = run; unwound = at_first }
 
--- the rules so many bytes behind the start of an epilogue: the pops that are left of the function's own info and of its
+-- the rules this many bytes after the start of an epilogue: the remaining pops of the function's own info and of its
 -- parents
 abbrev pub rules_left : Function → ℕ → Rules
 rules_left function run =

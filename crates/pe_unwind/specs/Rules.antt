@@ -1,5 +1,5 @@
--- What unwind infos say at an offset of their function: where the caller's stack pointer, the return address and the
--- saved registers are.
+-- The unwind rules at an offset of a function: where the caller's stack pointer, the return address and the saved
+-- registers are.
 use Rattle.std.specs.Prelude.{ℕ, ◌+◌, ◌-◌, ◌%◌, ◌^◌, ◌||◌, ◌&&◌, Bool, true, false, min, nat_le, nat_lt, List, [], ◌∷◌}
 use Rattle.std.specs.Prelude.{Option, Some, None, replicate, slice_set, is_none, is_some, if◌then◌else◌}
 use Rattle.std.specs.List.{list_any}
@@ -18,15 +18,15 @@ use Rattle.pe_unwind.specs.declared.unwind_codes.Operation.TheVariants.{SetFrame
 use Rattle.pe_unwind.specs.declared.unwind_codes.UnwindCode.{UnwindCode}
 use Rattle.pe_unwind.specs.declared.unwind_info.FrameRegister.{FrameRegister}
 
--- the sum of two addresses: addresses have 64 bits, and a negative number stands as its two's complement
+-- the sum of two 64-bit addresses; a negative number is its two's complement
 abbrev pub sum_of : ℕ → ℕ → ℕ
 sum_of a b = (a + b) % 2 ^ 64
 
--- a number taken off an address
+-- an address minus a number
 abbrev pub less : ℕ → ℕ → ℕ
 less a b = (a + (2 ^ 64 - b)) % 2 ^ 64
 
--- a place so many bytes above another
+-- the place this many bytes above another
 abbrev pub above : RegisterOffset → ℕ → RegisterOffset
 above place bytes = record place { offset = sum_of place.offset bytes }
 
@@ -38,7 +38,7 @@ stack_top = record { register = Rsp; offset = 0 }
 abbrev pub nothing_saved : List (Option RegisterOffset)
 nothing_saved = replicate 16 None
 
--- the place where a frame begins: the frame register points some bytes above it
+-- the start of a frame: the frame register points some bytes above it
 abbrev pub frame_start : FrameRegister → RegisterOffset
 frame_start frame = record { register = frame.register; offset = less 0 frame.offset }
 
@@ -46,7 +46,7 @@ frame_start frame = record { register = frame.register; offset = less 0 frame.of
 abbrev pub at_first : Unwound
 at_first = record { stack = stack_top; saved = nothing_saved; is_trapped = false }
 
--- a register is saved at a place; where it is saved twice, the place that comes last counts
+-- a register is saved at a place; of several places, the last one counts
 abbrev pub with_saved : Register → RegisterOffset → Unwound → Unwound
 with_saved register place unwound = record unwound { saved = slice_set unwound.saved (index register) (Some place) }
 
@@ -59,9 +59,9 @@ abbrev pub at_frame : Option FrameRegister → Unwound → Unwound
 at_frame None unwound = unwound
 at_frame (Some frame) unwound = record unwound { stack = frame_start frame }
 
--- what one operation undoes, by the info's frame register and by the place that its frame begins at: a push saves a
--- register where the stack pointer is, and moves it by 8 bytes; in a machine frame the stack pointer is where the
--- return address is, above an error code if there is one
+-- the effect of undoing one operation, by the info's frame register and the start of its frame. A push saves a register
+-- at the stack pointer, and moves it by 8 bytes. In a machine frame the stack pointer points at the return address,
+-- above an error code if there is one
 abbrev pub undone : Option FrameRegister → RegisterOffset → Operation → Unwound → Unwound
 undone frame start (Push register) u = popped 8 (with_saved register u.stack u)
 undone frame start (Allocate bytes) u = popped bytes u
@@ -72,12 +72,13 @@ undone frame start (MachineFrame with_error_code) u =
 undone frame start (Epilogue info) u = u
 undone frame start Unseen u = u
 
--- whether a code counts at an offset in the prologue: its instruction has run; behind the prologue (None) all count
+-- whether a code counts at an offset in the prologue: its instruction has run. After the prologue (None), all codes
+-- count
 abbrev pub counts : Option ℕ → UnwindCode → Bool
 counts None code = true
 counts (Some offset) code = nat_le code.offset offset
 
--- an offset, if it is after another and before an end; else this end
+-- an offset if it is between another and an end, otherwise the end
 abbrev pub sooner : ℕ → ℕ → ℕ → ℕ
 sooner offset from end = if nat_lt offset from && nat_lt from end then from else end
 
@@ -86,12 +87,12 @@ abbrev pub next_counted : ℕ → ℕ → List UnwindCode → ℕ
 next_counted offset end [] = end
 next_counted offset end (code ∷ codes) = next_counted offset (sooner offset code.offset end) codes
 
--- what one code undoes: nothing where it doesn't count, and nothing behind a machine frame
+-- the effect of undoing one code: nothing if it doesn't count, or after a machine frame
 abbrev pub code_undone : Option FrameRegister → RegisterOffset → Option ℕ → UnwindCode → Unwound → Unwound
 code_undone frame start offset code u =
     if u.is_trapped then u else if counts offset code then undone frame start code.operation u else u
 
--- what some codes undo, one after the other
+-- the effect of undoing some codes, in order
 abbrev pub codes_undone : Option FrameRegister → RegisterOffset → Option ℕ → List UnwindCode → Unwound → Unwound
 codes_undone frame start offset [] u = u
 codes_undone frame start offset (code ∷ codes) u =
@@ -111,26 +112,27 @@ abbrev pub start_once : Option FrameRegister → Bool → RegisterOffset
 start_once None set = stack_top
 start_once (Some frame) set = if set then frame_start frame else stack_top
 
--- the place that SAVE codes count from: the frame's start if the info has a frame register that is set there, which is
--- so behind the prologue, in a chained info, and behind the code that sets it; else the stack pointer
+-- the place from which SAVE codes count: the frame's start if the info has a frame register that is set there,
+-- otherwise the stack pointer. It is set after the prologue, in a chained info, and after the code that sets it
 abbrev pub saves_from : Option ℕ → Info → RegisterOffset
 saves_from offset info =
     start_once info.frame (is_none offset || is_some info.parent || list_any (sets_frame offset) info.codes)
 
--- what an info undoes at an offset in its prologue, or behind it (None)
+-- the effect of undoing an info at an offset in its prologue, or after it (None)
 abbrev pub info_undone : Option ℕ → Info → Unwound → Unwound
 info_undone offset info u = codes_undone info.frame (saves_from offset info) offset info.codes u
 
--- what the parents of a chained info undo, one after the other: all of their codes count
+-- the effect of undoing the parents of a chained info, in order: all of their codes count
 abbrev pub parents_undone : List Info → Unwound → Unwound
 parents_undone [] u = u
 parents_undone (info ∷ infos) u = parents_undone infos (info_undone None info u)
 
--- where the caller's stack pointer is: above the return address, or in the machine frame, 24 bytes above it
+-- the caller's stack pointer: the address after the return address, or in a machine frame, the value stored 24 bytes
+-- above the return address
 abbrev pub cfa_of : Unwound → Cfa
 cfa_of u = if u.is_trapped then Loaded (above u.stack 24) else Sum (above u.stack 8)
 
--- the rules where so much is undone: the stack pointer points at the return address
+-- the rules after this much is undone: the stack pointer points at the return address
 abbrev pub rules_of : Unwound → Rules
 rules_of u = record { cfa = cfa_of u; return_address = u.stack; saved = u.saved }
 
@@ -142,14 +144,15 @@ pub record Function : Type 0 where
   pub own : Info
   pub parents : List Info
 
--- an offset in the prologue of an info; none behind it
+-- an offset in the prologue of an info; none after it
 abbrev pub prologue_offset : Info → ℕ → Option ℕ
 prologue_offset info offset = if nat_lt offset info.prologue_size then Some offset else None
 
--- the rules at an offset in the prologue, or behind it (None), outside of epilogues
+-- the rules at an offset in the prologue, or after it (None), outside of epilogues
 abbrev pub body_rules : Function → Option ℕ → Rules
 body_rules function offset = rules_of (parents_undone function.parents (info_undone offset function.own at_first))
 
--- the first offset after one in the prologue at which one more code counts, or else the prologue's end; at most the size
+-- the first offset after one in the prologue at which one more code counts, otherwise the prologue's end; at most the
+-- size
 abbrev pub next_step : Function → ℕ → ℕ → ℕ
 next_step function offset size = next_counted offset (min function.own.prologue_size size) function.own.codes

@@ -16,7 +16,7 @@ use Rattle.pe_unwind.specs.declared.unwind_codes.UnwindCode.{UnwindCode}
 abbrev pub uwop_push_nonvol : ℕ
 uwop_push_nonvol = 0
 
--- UWOP_ALLOC_LARGE: the stack pointer was moved by a size in the slots behind the code
+-- UWOP_ALLOC_LARGE: the stack pointer was moved by a size in the slots after the code
 abbrev pub uwop_alloc_large : ℕ
 uwop_alloc_large = 1
 
@@ -56,8 +56,8 @@ uwop_save_xmm128_far = 9
 abbrev pub uwop_push_machframe : ℕ
 uwop_push_machframe = 10
 
--- how many slots of two bytes a code takes, by its kind and its operation info; UWOP_EPILOG and UWOP_SPARE_CODE are
--- known in version 2 alone
+-- the number of two-byte slots of a code, by its kind and its operation info; UWOP_EPILOG and UWOP_SPARE_CODE exist
+-- only in version 2
 abbrev pub slot_count : ℕ → ℕ → ℕ → Option ℕ
 slot_count version kind info =
     if kind == uwop_push_nonvol then Some 1 else
@@ -73,16 +73,16 @@ slot_count version kind info =
     if kind == uwop_push_machframe then Some 1 else
     None
 
--- the number in the slot behind a code
+-- the number in the slot after a code
 abbrev pub small_operand : List ℕ → ℕ
 small_operand operands = unwrap_or (number_at 2 operands 0) 0
 
--- the number in the two slots behind a code
+-- the number in the two slots after a code
 abbrev pub large_operand : List ℕ → ℕ
 large_operand operands = unwrap_or (number_at 4 operands 0) 0
 
--- what a code says that was done, by its kind, its operation info and the bytes of the slots behind it: a size or an
--- offset in one slot is in units of 8 bytes, one in two slots is in bytes; what concerns xmm registers isn't shown
+-- the operation of a code, by its kind, its operation info and the bytes of the slots after it. A size or an offset is
+-- in units of 8 bytes in one slot, and in bytes in two slots; operations on xmm registers aren't shown
 abbrev pub operation_of : ℕ → ℕ → List ℕ → Operation
 operation_of kind info operands =
     if kind == uwop_push_nonvol then Push (register info) else
@@ -96,8 +96,8 @@ operation_of kind info operands =
     if kind == uwop_push_machframe then MachineFrame (info == 1) else
     Unseen
 
--- the code that takes so many slots at the front, and the bytes behind it: the offset in the prologue, then the kind
--- in the low four bits of a byte and the operation info in its high four bits
+-- the first code, which takes `count` slots, and the bytes after it: the offset in the prologue, then the kind in the
+-- low four bits of a byte and the operation info in its high four bits
 abbrev pub code_of : List ℕ → ℕ → Result (UnwindCode × List ℕ) EntryError
 code_of bytes count =
     if nat_lt (length bytes) (2 * count) then Err CodesCut else Ok (
@@ -108,13 +108,13 @@ code_of bytes count =
       drop (2 * count) bytes,
     )
 
--- the code at the front, and the bytes behind it
+-- the code at the front, and the bytes after it
 abbrev pub first_code : ℕ → List ℕ → Result (UnwindCode × List ℕ) EntryError
 first_code version bytes = do
   count ← ok_or (slot_count version (slice_index bytes 1 % 16) (slice_index bytes 1 / 16)) UnknownCode
   code_of bytes count
 
--- at most so many codes, until the bytes end
+-- at most `count` codes, until the bytes end
 abbrev pub codes_up_to : ℕ → ℕ → List ℕ → Result (List UnwindCode) EntryError
 codes_up_to zero version bytes = Ok []
 codes_up_to (suc count) version bytes =
@@ -122,6 +122,6 @@ codes_up_to (suc count) version bytes =
       read ← first_code version bytes
       behind (read.0 ∷ []) (codes_up_to count version read.1))
 
--- all codes in these bytes: each takes a slot or more, so there are no more of them than bytes
+-- all codes in these bytes. Each takes at least one slot, so there are at most as many codes as bytes
 unfoldable pub unwind_codes : ℕ → List ℕ → Result (List UnwindCode) EntryError
 unwind_codes version bytes = codes_up_to (length bytes) version bytes

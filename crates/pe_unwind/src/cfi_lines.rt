@@ -1,4 +1,4 @@
-//! The lines that show a function's rules: one for each change.
+//! Lists a function's rules as lines, one for each change.
 
 ghost use Rattle.std.specs.Prelude.{◌≡◌, ◌≤◌, ℕ, ◌+◌, ◌-◌, ◌<◌, length, IfErr, IfOk, IsTrue, OnOk, Some};
 ghost use Rattle.pe_unwind.specs.CfiLines.{Ascend, Show, shown};
@@ -12,20 +12,20 @@ use crate::unwind_errors::UnwindError;
 use pe_image::{FunctionEntry, Image};
 use std::alloc::{AllocError, Global};
 
-/// Rules that hold from an offset of a function on, up to the next line.
+/// Rules that hold from an offset of a function to the next line.
 #[derive(Debug, Clone, Copy)]
 pub struct CfiLine {
-    /// In bytes from the function's start.
+    /// The offset in bytes from the function's start.
     pub offset: u32,
     pub rules: Rules,
 }
 
-/// The lines of the function of an entry: at each of its offsets they show the function's rules there. `reach` is the
-/// end of the functions before it.
+/// The lines of an entry's function. They give the function's rules at each of its offsets. `reach` is the end of the
+/// functions before it.
 ///
 /// # Errors
 ///
-/// Answers why the entry is left out, or that memory ran out.
+/// Why the entry is omitted, or that memory ran out.
 #[tactic(auto, using(crate::proofs::RecordLemmas::let_know))]
 pub fn function_lines(
     alloc: Global,
@@ -43,7 +43,7 @@ pub fn function_lines(
     Ok(lines_of(alloc, &function, code)?)
 }
 
-/// The lines of a function, by its code: at each of its offsets they show the function's rules there.
+/// The lines of a function, by its code. They give the function's rules at each of its offsets.
 pub fn lines_of(
     alloc: Global,
     function: &FunctionUnwind,
@@ -69,7 +69,7 @@ pub fn lines_of(
     Ok(lines)
 }
 
-// Appends a line at an offset, unless the last rules are these.
+// Appends a line at an offset, unless the last line has the same rules.
 fn push_change(
     lines: &mut Vec<CfiLine>,
     last: Option<Rules>,
@@ -92,7 +92,7 @@ fn push_change(
     Ok(())
 }
 
-// Whether the last rules are these.
+// Whether the last line has the same rules.
 fn is_same(last: Option<Rules>, rules: Rules) -> bool
     ensures { IsTrue result → last ≡ Some rules }
 {

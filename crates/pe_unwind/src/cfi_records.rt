@@ -1,4 +1,4 @@
-//! The records of a function's rules: what changes from one line to the next.
+//! Makes CFI records of a function's rules: the changes from one line to the next.
 
 ghost use Rattle.std.specs.Prelude.{◌≡◌, ◌++◌, ◌≤◌, ◌<◌, ◌^◌, length, map, IfOk, OnOk, Some};
 ghost use Rattle.pe_unwind.specs.CfiRecords.{CfaFits, place_known};
@@ -14,22 +14,22 @@ use std::alloc::{AllocError, Global};
 /// How the return address or a register of the caller is found.
 #[derive(Debug, Clone, Copy)]
 pub enum RegisterRule {
-    /// The register has its value still.
+    /// The register still has the caller's value.
     Unchanged,
-    /// It is stored so many bytes below the caller's stack pointer.
+    /// It is stored this many bytes below the caller's stack pointer.
     BelowCfa(u64),
-    /// It is stored at a place.
+    /// It is stored at this place.
     At(RegisterOffset),
 }
 
-/// What a record says of one thing.
+/// One rule of a record.
 #[derive(Debug, Clone, Copy)]
 pub enum CfiItem {
     /// The caller's stack pointer.
     CfaItem(Cfa),
     /// The return address.
     ReturnItem(RegisterRule),
-    /// A register.
+    /// A register of the caller.
     RegisterItem(Register, RegisterRule),
 }
 
@@ -44,7 +44,7 @@ pub fn first_items(alloc: Global, new: &Rules) -> Result<Vec<CfiItem>, AllocErro
     Ok(items)
 }
 
-/// The items of a later record, by the rules before and by those from there on.
+/// The items of a later record, by the rules before it and those from it on.
 pub fn later_items(alloc: Global, old: &Rules, new: &Rules) -> Result<Vec<CfiItem>, AllocError>
     ensures { IfOk result (λ items. items.items ≡ later_items (written old.now) (written new.now)) }
 {
@@ -65,7 +65,7 @@ pub fn later_items(alloc: Global, old: &Rules, new: &Rules) -> Result<Vec<CfiIte
     Ok(items)
 }
 
-/// Law: a record keeps the place where a register is saved.
+/// Law: a record gives the place where a register is saved.
 pub fn records_keep_places()
     ensures { (cfa : Cfa) (place : RegisterOffset) → CfaFits cfa → place.offset < 2 ^ 64
         → place_known cfa (place_by cfa place) ≡ Some place }
@@ -92,7 +92,7 @@ fn push_registers(
     Ok(())
 }
 
-// Appends an item where a rule changes.
+// Appends an item unless its rule is the same as before.
 fn push_changed(items: &mut Vec<CfiItem>, same: bool, item: CfiItem) -> Result<(), AllocError>
     ensures { OnOk result (items.new.items ≡ items.old.items ++ if_changed same item) }
 {
@@ -127,7 +127,7 @@ fn same_cfa(a: Cfa, b: Cfa) -> bool
     }
 }
 
-// Whether something is found in the same way.
+// Whether two register rules are the same.
 fn same_found(a: RegisterRule, b: RegisterRule) -> bool
     ensures { result ≡ same_found a b }
 {
@@ -139,7 +139,7 @@ fn same_found(a: RegisterRule, b: RegisterRule) -> bool
     }
 }
 
-// Where a place is by the caller's stack pointer.
+// A place, relative to the caller's stack pointer if both are relative to the same register.
 fn place_by(cfa: Cfa, place: RegisterOffset) -> RegisterRule
     ensures { result ≡ place_by cfa place }
 {
@@ -151,7 +151,7 @@ fn place_by(cfa: Cfa, place: RegisterOffset) -> RegisterRule
     }
 }
 
-// How a register is found by the place where it is saved.
+// The rule for a register by the place where it is saved.
 fn found_by(cfa: Cfa, saved: Option<RegisterOffset>) -> RegisterRule
     ensures { result ≡ found_by cfa saved }
 {

@@ -1,4 +1,4 @@
-//! The text of a function's records, as Breakpad writes STACK CFI records.
+//! Writes a function's records as text, in Breakpad's form of STACK CFI records.
 
 ghost use Rattle.std.specs.Prelude.{◌≡◌, ◌++◌, IfErr, OnOk, string_bytes};
 ghost use Rattle.std.specs.List.{flat_map};
@@ -15,11 +15,11 @@ use crate::unwind_errors::UnwindError;
 use pe_image::{FunctionEntry, Image};
 use std::alloc::{AllocError, Global};
 
-/// Appends the records of the function of an entry. `reach` is the end of the functions before it.
+/// Appends the records of an entry's function. `reach` is the end of the functions before it.
 ///
 /// # Errors
 ///
-/// Answers why the entry is left out; then the text is unchanged. Or memory ran out; then a part of the records may have
+/// Why the entry is omitted; then the text is unchanged. Or that memory ran out; then a part of the records may have
 /// been appended.
 pub fn push_entry(
     alloc: Global,
@@ -38,7 +38,7 @@ pub fn push_entry(
     Ok(())
 }
 
-/// Appends the records of the function of an entry, by its lines.
+/// Appends the records of an entry's function, by its lines.
 pub fn push_function(
     alloc: Global,
     text: &mut String,
@@ -61,7 +61,7 @@ pub fn push_function(
     push_others(alloc, text, entry.begin, &first.rules, others)
 }
 
-// Appends the records of the lines behind one with these rules.
+// Appends the records of the lines after one with these rules.
 fn push_others(
     alloc: Global,
     text: &mut String,
@@ -166,7 +166,7 @@ fn push_cfa(text: &mut String, cfa: Cfa) -> Result<(), AllocError>
     }
 }
 
-// Appends how the return address or a register is found, by its own name.
+// Appends how the return address or a register is found. `own` is the name for an unchanged value.
 fn push_found(text: &mut String, own: &str, found: RegisterRule) -> Result<(), AllocError>
     ensures { OnOk result (string_bytes text.new ≡ string_bytes text.old ++ found_text own.now found) }
 {
@@ -205,7 +205,7 @@ fn push_signed(text: &mut String, number: u64) -> Result<(), AllocError>
     write!(text, "-{size}")
 }
 
-// A register as Breakpad writes it.
+// The name of a register in Breakpad's form.
 fn name(register: Register) -> &'static str
     ensures { result.now ≡ name register }
 {

@@ -1,4 +1,4 @@
-//! Epilogues: the instructions that give a function's frame back and leave it, and the rules between them.
+//! Finds epilogues, the instructions that free a function's frame and leave it, and the rules at each of them.
 
 ghost use Rattle.std.specs.Prelude.{◌≡◌, ◌≤◌, ◌<◌, ◌+◌, ℕ, drop, false, is_some, length, slice_index};
 ghost use Rattle.pe_unwind.specs.Epilogues.{adds_byte, adds_number, begins_with, epilogue_rules, first_pop, is_pop};
@@ -16,16 +16,16 @@ use crate::rules::{
 use crate::unwind_info::FrameRegister;
 use pe_image::u32_at;
 
-/// How many registers an epilogue pops at most.
+/// The maximum number of registers that an epilogue pops.
 const MOST_POPS: usize = 16;
 
-/// pop rsp.
+/// The byte of `pop rsp`.
 const POP_RSP: u8 = 0x5c;
 
-/// What an instruction that gives the frame back does.
+/// The effect of an instruction that frees the frame.
 #[derive(Clone, Copy)]
 struct Restored {
-    /// Where the stack pointer points behind it.
+    /// The stack pointer after it.
     stack: RegisterOffset,
     /// Its size in bytes, 0 if there is none.
     size: usize,
@@ -39,8 +39,8 @@ struct Pop {
     size: usize,
 }
 
-/// The rules at an instruction of an epilogue of version 1, by the function's code from there on up to its end, or
-/// `None` if no epilogue goes on there.
+/// The rules at an instruction of an epilogue of version 1. `code` is the function's code from there to its end. `None`
+/// if no epilogue continues there.
 pub(crate) fn epilogue_rules(function: &FunctionUnwind, code: &[u8]) -> Option<Rules>
     requires { length code.now ≤ function.now.end }
     ensures answer { result ≡ epilogue_rules function.now code.now }
@@ -53,7 +53,7 @@ pub(crate) fn epilogue_rules(function: &FunctionUnwind, code: &[u8]) -> Option<R
     None
 }
 
-/// Whether an epilogue of version 1 goes on where this code begins.
+/// Whether an epilogue of version 1 continues at the start of this code.
 pub(crate) fn is_epilogue(function: &FunctionUnwind, code: &[u8]) -> bool
     requires { length code.now ≤ function.now.end }
     ensures answer { result ≡ is_some (epilogue_rules function.now code.now) }
@@ -92,8 +92,8 @@ fn is_epilogue_at(function: &FunctionUnwind, code: &[u8], at: usize) -> bool
     is_epilogue(function, rest)
 }
 
-// Whether the bytes at an offset can be the first three of an epilogue. The comparisons of ranges come first, since
-// they rule out most bytes.
+// Whether the bytes at an offset can be the first three of an epilogue. The range comparisons come first, because they
+// rule out most bytes.
 fn may_begin(code: &[u8], at: usize) -> bool
     requires { at < length code.now }
     ensures { result
@@ -127,7 +127,7 @@ fn may_follow(second: u8, third: u8) -> bool
     }
 }
 
-// Nothing undone, with the stack pointer here.
+// The state before anything is undone, with the stack pointer at this place.
 fn from_stack(stack: RegisterOffset) -> Unwound
     ensures { result ≡ record at_first { stack = stack } }
 {
@@ -140,7 +140,7 @@ fn from_stack(stack: RegisterOffset) -> Unwound
     }
 }
 
-// What is behind so many bytes of code.
+// The code after the first `count` bytes.
 fn behind(code: &[u8], count: usize) -> &[u8]
     ensures answer { result.now ≡ drop count code.now }
     ensures shorter { length result.now ≤ length code.now }
@@ -152,14 +152,14 @@ fn behind(code: &[u8], count: usize) -> &[u8]
     rest
 }
 
-// The byte at an offset, or 0 behind the code's end.
+// The byte at an offset; 0 after the end of the code.
 fn byte(code: &[u8], at: usize) -> u8
     ensures { result ≡ slice_index code.now at }
 {
     code.get(at).copied().unwrap_or(0)
 }
 
-// A number of one byte with a sign.
+// Sign-extends a byte.
 fn signed_byte(byte: u8) -> u64
     ensures { result ≡ signed_byte byte }
 {
@@ -170,7 +170,7 @@ fn signed_byte(byte: u8) -> u64
     }
 }
 
-// A number of four bytes with a sign.
+// Sign-extends a four-byte number.
 fn signed_number(number: u32) -> u64
     ensures { result ≡ signed_number number }
 {
@@ -181,35 +181,35 @@ fn signed_number(number: u32) -> u64
     }
 }
 
-// The number in the four bytes at an offset of an instruction.
+// The four-byte number at an offset of an instruction.
 fn operand(code: &[u8], at: usize) -> u32
     ensures { result ≡ operand code.now at }
 {
     u32_at(code, at).unwrap_or(0)
 }
 
-// Whether code begins with two bytes and is of so many bytes.
+// Whether code begins with these two bytes and has at least `size` bytes.
 fn begins_with(first: u8, second: u8, size: usize, code: &[u8]) -> bool
     ensures { result ≡ begins_with first second size code.now }
 {
     byte(code, 0) == first && byte(code, 1) == second && size <= code.len()
 }
 
-// add rsp, imm8.
+// Whether code begins with `add rsp, imm8`.
 fn adds_byte(code: &[u8]) -> bool
     ensures { result ≡ adds_byte code.now }
 {
     begins_with(0x48, 0x83, 4, code) && byte(code, 2) == 0xc4
 }
 
-// add rsp, imm32.
+// Whether code begins with `add rsp, imm32`.
 fn adds_number(code: &[u8]) -> bool
     ensures { result ≡ adds_number code.now }
 {
     begins_with(0x48, 0x81, 7, code) && byte(code, 2) == 0xc4
 }
 
-// lea rsp, [register + displacement].
+// Whether code begins with `lea rsp, [register + displacement]`.
 fn leas(number: u8, mode: u8, size: usize, code: &[u8]) -> bool
     requires number { number < 16 }
     requires mode { mode < 3 }
@@ -220,7 +220,7 @@ fn leas(number: u8, mode: u8, size: usize, code: &[u8]) -> bool
         && byte(code, 2) == mode * 64 + 0x20 + number % 8
 }
 
-// The stack pointer behind a lea by a frame register.
+// The effect of a `lea` by the frame register, if the code begins with one.
 fn lea_by(frame: FrameRegister, code: &[u8]) -> Restored
     ensures { result ≡ lea_by frame code.now }
 {
@@ -241,7 +241,7 @@ fn lea_by(frame: FrameRegister, code: &[u8]) -> Restored
     }
 }
 
-// No instruction that gives the frame back.
+// The effect if no instruction frees the frame.
 fn nothing_restored() -> Restored
     ensures { result ≡ record { stack = stack_top; size = 0 } }
 {
@@ -251,7 +251,7 @@ fn nothing_restored() -> Restored
     }
 }
 
-// The same, if the function has a frame register.
+// The effect of a `lea` by the frame register, if the function has one and the code begins with it.
 fn lea_if(frame: Option<FrameRegister>, code: &[u8]) -> Restored
     ensures { result ≡ lea_if frame code.now }
 {
@@ -261,7 +261,7 @@ fn lea_if(frame: Option<FrameRegister>, code: &[u8]) -> Restored
     }
 }
 
-// The stack pointer behind the instruction that gives the frame back.
+// The effect of the instruction that frees the frame, if the code begins with one.
 fn stack_restored(frame: Option<FrameRegister>, code: &[u8]) -> Restored
     ensures { result ≡ stack_restored frame code.now }
 {
@@ -287,7 +287,7 @@ fn is_pop(byte: u8) -> bool
     0x58 <= byte && byte < 0x60
 }
 
-// The pop that code begins with.
+// The `pop` with which code begins, if any.
 fn first_pop(code: &[u8]) -> Option<Pop>
     ensures { result ≡ first_pop code.now }
 {
@@ -308,14 +308,14 @@ fn first_pop(code: &[u8]) -> Option<Pop>
     None
 }
 
-// What a pop does.
+// The state after a pop.
 fn pop_undone(pop: Pop, unwound: Unwound) -> Unwound
     ensures { result ≡ pop_undone pop unwound }
 {
     popped(8, with_saved(pop.register, unwound.stack, unwound))
 }
 
-// What the pops do that code begins with, and the bytes behind them.
+// The state after the pops with which code begins, and the code after them.
 fn first_pops(code: &[u8], unwound: Unwound) -> (Unwound, &[u8])
     ensures undone { result.0 ≡ (first_pops code.now unwound).0 }
     ensures rest { result.1.now ≡ (first_pops code.now unwound).1 }
@@ -333,7 +333,7 @@ fn first_pops(code: &[u8], unwound: Unwound) -> (Unwound, &[u8])
     (undone, rest)
 }
 
-// What is behind the pops that code begins with.
+// The code after the pops with which it begins.
 fn pops_rest(code: &[u8]) -> &[u8]
     ensures rest { (u : Unwound) → result.now ≡ (first_pops code.now u).1 }
     ensures shorter { length result.now ≤ length code.now }
@@ -348,7 +348,7 @@ fn pops_rest(code: &[u8]) -> &[u8]
     rest
 }
 
-// ret, ret imm16 and rep ret.
+// Whether code begins with `ret`, `ret imm16` or `rep ret`.
 fn returns(code: &[u8]) -> bool
     ensures { result ≡ returns code.now }
 {
@@ -366,7 +366,7 @@ fn leaves_for(function: &FunctionUnwind, target: u64) -> bool
         || target == begin && function.own.parent.is_none()
 }
 
-// A jump out of the function, by an offset from the next instruction.
+// Whether code begins with a relative jump that leaves the function.
 fn jumps_out(function: &FunctionUnwind, code: &[u8]) -> bool
     requires { length code.now ≤ function.now.end }
     ensures { result ≡ jumps_out function.now code.now }
@@ -388,14 +388,14 @@ fn jumps_out(function: &FunctionUnwind, code: &[u8]) -> bool
         )
 }
 
-// A jump through memory.
+// Whether code begins with a jump through memory.
 fn jumps_through(code: &[u8]) -> bool
     ensures { result ≡ jumps_through code.now }
 {
     begins_with(0xff, 0x25, 6, code)
 }
 
-// A jump through memory or by a register behind a prefix.
+// Whether code begins with a jump through memory or by a register, with a prefix before it.
 fn jumps_prefixed(code: &[u8]) -> bool
     ensures { result ≡ jumps_prefixed code.now }
 {

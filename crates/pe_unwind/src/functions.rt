@@ -1,4 +1,4 @@
-//! The functions of the exception directory, with their unwind infos and their code, and the rules at each offset.
+//! Reads a function of the exception directory with its unwind infos and its code, and gives the rules at each offset.
 
 ghost use Rattle.std.specs.Prelude.{◌≡◌, ◌==◌, ◌≤◌, ◌<◌, ◌+◌, ℕ, is_some, length, true, IfOk, None};
 ghost use Rattle.pe_unwind.specs.UnwindErrors.{Gives};
@@ -14,8 +14,8 @@ use crate::unwind_info::{info_at, parents_of};
 use pe_image::{FunctionEntry, Image};
 use std::alloc::Global;
 
-/// The code of a function: all bytes from its start to its end. It is refused if it is empty, if the image has no
-/// bytes for all of it, or if it begins before `reach`, the end of the functions before it.
+/// The code of a function, from its start to its end. An error is returned if it is empty, if the image doesn't have
+/// all its bytes, or if it begins before `reach`, the end of the functions before it.
 pub fn code_of<'a>(
     image: &Image<'a>,
     reach: u32,
@@ -39,7 +39,7 @@ pub fn code_of<'a>(
     Ok(code)
 }
 
-/// The unwind info of a function, and those that it is chained to.
+/// Reads the unwind info of a function, and the infos to which it is chained.
 pub fn read_function(
     alloc: Global,
     image: &Image<'_>,
@@ -59,7 +59,7 @@ pub fn read_function(
     })
 }
 
-/// The rules in an epilogue at an offset, by the function's code.
+/// The rules at an offset in an epilogue, by the function's code; `None` if the offset isn't in one.
 pub(crate) fn epilogue_at(function: &FunctionUnwind, code: &[u8], offset: u32) -> Option<Rules>
     requires offset { offset < length code.now }
     requires code { length code.now ≤ function.now.end }
@@ -75,7 +75,7 @@ pub(crate) fn epilogue_at(function: &FunctionUnwind, code: &[u8], offset: u32) -
     None
 }
 
-// Whether a function's epilogues are those that its info lists.
+// Whether a function's unwind info lists its epilogues (version 2).
 fn lists_epilogues(function: &FunctionUnwind) -> bool
     ensures { result ≡ (function.now.own.version == 2) }
 {
@@ -102,7 +102,7 @@ pub fn rule_at(function: &FunctionUnwind, code: &[u8], offset: u32) -> Rules
     }
 }
 
-/// The rules at an offset of a function, if those of its body are at hand.
+/// The rules at an offset of a function. `body` are the rules of its body, computed before.
 pub(crate) fn rule_by_body(
     function: &FunctionUnwind,
     code: &[u8],
@@ -120,8 +120,8 @@ pub(crate) fn rule_by_body(
     rule_at(function, code, offset)
 }
 
-/// The end of a run of offsets with the same rules, by the first of them and the function's size. The run after it may
-/// have these rules too.
+/// The end of a range of offsets with the same rules, by its first offset and the function's size. The next range may
+/// have the same rules, too.
 pub(crate) fn rules_end(function: &FunctionUnwind, code: &[u8], offset: u32, size: u32) -> u32
     requires offset { offset < size }
     requires size { size ≡ length code.now }
@@ -140,7 +140,7 @@ pub(crate) fn rules_end(function: &FunctionUnwind, code: &[u8], offset: u32, siz
     next_step(function, offset, size)
 }
 
-// The end of a run of offsets with the rules of the body, by the first of them.
+// The end of a range of offsets with the rules of the body, by its first offset.
 fn plain_end(function: &FunctionUnwind, code: &[u8], offset: u32, size: u32) -> u32
     requires plain { is_plain function.now code.now offset ≡ true }
     requires offset { offset < size }
@@ -182,7 +182,7 @@ fn is_in_epilogue(function: &FunctionUnwind, code: &[u8], offset: u32) -> bool
     false
 }
 
-/// The address that functions reach up to behind an entry: where this one ends, if its code isn't refused.
+/// The end of all functions up to this entry. An entry whose code is refused doesn't change it.
 pub fn reach_behind(image: &Image<'_>, reach: u32, entry: FunctionEntry) -> u32
     ensures answer { result ≡ reach_behind image.now reach entry }
 {

@@ -1,4 +1,4 @@
-//! Code that no entry of the exception directory covers: that of leaf functions, which don't move the stack pointer.
+//! Finds the code of leaf functions: code that no entry of the exception directory covers.
 
 ghost use Rattle.std.specs.Prelude.{◌≡◌, ◌++◌, ◌-◌, ◌≤◌, ◌<◌, ℕ, List, IfOk, OnOk, filter, not, string_bytes, true};
 ghost use Rattle.std.specs.List.{flat_map, list_all, list_any};
@@ -12,23 +12,23 @@ use crate::rules::{Rules, at_first, rules_of};
 use pe_image::{FunctionEntry, Image, Section};
 use std::alloc::{AllocError, Global};
 
-/// The byte of int3, which linkers put between functions.
+/// The byte of `int3`, with which linkers pad the space between functions.
 const INT3: u8 = 0xcc;
 
-/// The size in bytes from which on a run is no padding.
+/// The size in bytes from which a range isn't taken for padding.
 const LEAST_CODE: u32 = 16;
 
-/// A run of addresses, relative to the image base.
+/// A range of code addresses, relative to the image base.
 #[derive(Debug, Clone, Copy, PartialEq, Eq)]
 pub struct CodeRun {
     /// The address of its first byte.
     pub begin: u32,
-    /// The address behind its last byte.
+    /// The address just after its last byte.
     pub end: u32,
 }
 
-/// Appends the records of leaf functions: one for each run of a program's code that no entry covers. There are none if
-/// the entries don't ascend.
+/// Appends the records of leaf functions: one for each range of the program's code that no entry covers. If the entries
+/// aren't in ascending order, there are none.
 pub fn push_leaf_records(
     alloc: Global,
     text: &mut String,
@@ -42,8 +42,8 @@ pub fn push_leaf_records(
     push_run_records(alloc, text, &runs)
 }
 
-/// The code of leaf functions: the runs of a program's code that no entry covers, without the padding between functions.
-/// There are none if the entries don't ascend.
+/// The ranges of a program's code that no entry covers, without the padding between functions. If the entries aren't in
+/// ascending order, there are none.
 pub fn leaf_runs(
     alloc: Global,
     image: &Image<'_>,
@@ -58,13 +58,13 @@ pub fn leaf_runs(
     without_padding(alloc, image, &runs)
 }
 
-/// Law: by entries that ascend, an address between two others is in a run exactly if no entry covers it.
+/// Law: if entries are in ascending order, an address between two others is in a range exactly if no entry covers it.
 pub fn runs_have_what_no_entry_covers()
     ensures { (entries : List FunctionEntry) (reach from to rva : ℕ) → ascend reach entries ≡ true → from ≤ rva
         → rva < to → list_any (has rva) (uncovered from to entries) ≡ not (list_any (covers rva) entries) }
 {}
 
-// Those of these runs that are no padding.
+// The ranges that aren't padding.
 fn without_padding(
     alloc: Global,
     image: &Image<'_>,
@@ -81,7 +81,7 @@ fn without_padding(
     Ok(kept)
 }
 
-// Appends the records of runs.
+// Appends the records of ranges.
 fn push_run_records(alloc: Global, text: &mut String, runs: &[CodeRun]) -> Result<(), AllocError>
     ensures { OnOk result (string_bytes text.new ≡ string_bytes text.old ++ flat_map run_text runs.now) }
 {
@@ -91,7 +91,7 @@ fn push_run_records(alloc: Global, text: &mut String, runs: &[CodeRun]) -> Resul
     Ok(())
 }
 
-// Appends the record of a run.
+// Appends the record of a range.
 fn push_run_record(alloc: Global, text: &mut String, run: CodeRun) -> Result<(), AllocError>
     ensures { OnOk result (string_bytes text.new ≡ string_bytes text.old ++ run_text run) }
 {
@@ -106,7 +106,7 @@ fn leaf_rules() -> Rules
     rules_of(at_first())
 }
 
-// Whether entries ascend.
+// Whether entries are in ascending order and don't overlap.
 fn ascend(entries: &[FunctionEntry]) -> bool
     ensures { result ≡ ascend 0 entries.now }
 {
@@ -130,7 +130,7 @@ fn is_empty(entry: FunctionEntry) -> bool
     entry.end <= entry.begin
 }
 
-// The runs of sections that no entry covers.
+// The ranges of the executable sections that no entry covers.
 fn runs_of(
     alloc: Global,
     sections: &[Section],
@@ -147,7 +147,7 @@ fn runs_of(
     Ok(runs)
 }
 
-// Appends the runs of a section, behind sections that reach up to an address.
+// Appends the ranges of a section, if it begins at or after `reach`, the end of the sections before it.
 fn push_section_runs(
     runs: &mut Vec<CodeRun>,
     entries: &[FunctionEntry],
@@ -162,7 +162,7 @@ fn push_section_runs(
     Ok(())
 }
 
-// Where the bytes of a section end.
+// The end of the bytes of a section.
 fn section_end(section: Section) -> u32
     ensures { result ≡ section_end section }
 {
@@ -171,7 +171,7 @@ fn section_end(section: Section) -> u32
         .saturating_add(section.size.min(section.file_size))
 }
 
-// Appends the runs from an address up to another that no entry covers.
+// Appends the ranges between two addresses that no entry covers.
 fn push_uncovered(
     runs: &mut Vec<CodeRun>,
     from: u32,
@@ -190,7 +190,7 @@ fn push_uncovered(
     push_run(runs, start, to)
 }
 
-// Appends the run from an address up to another, if there is any address between them.
+// Appends the range between two addresses, if it isn't empty.
 fn push_run(runs: &mut Vec<CodeRun>, begin: u32, end: u32) -> Result<(), AllocError>
     ensures { OnOk result (runs.new.items ≡ runs.old.items ++ run_between begin end) }
 {
@@ -200,7 +200,7 @@ fn push_run(runs: &mut Vec<CodeRun>, begin: u32, end: u32) -> Result<(), AllocEr
     Ok(())
 }
 
-// Whether a run is padding between functions.
+// Whether a range is padding between functions.
 fn is_padding(image: &Image<'_>, run: CodeRun) -> bool
     ensures { result ≡ is_padding image.now run }
 {
@@ -208,7 +208,7 @@ fn is_padding(image: &Image<'_>, run: CodeRun) -> bool
     size < LEAST_CODE && are_int3(run_bytes(image, run, size))
 }
 
-// Whether all bytes are int3.
+// Whether all bytes are `int3`.
 fn are_int3(bytes: &[u8]) -> bool
     ensures { result ≡ list_all is_int3 bytes.now }
 {
@@ -220,7 +220,7 @@ fn are_int3(bytes: &[u8]) -> bool
     true
 }
 
-// The bytes of a run of this size.
+// The bytes of a range of this size.
 fn run_bytes<'a>(image: &Image<'a>, run: CodeRun, size: u32) -> &'a [u8]
     requires { size ≡ run.end - run.begin }
     ensures { result.now ≡ run_bytes image.now run }

@@ -1,4 +1,4 @@
-//! Epilogues of version 2, which the first unwind codes of an info list.
+//! Finds the epilogues of version 2, which the first unwind codes of an info list, and the rules in them.
 
 ghost use Rattle.std.specs.Prelude.{◌≡◌, ◌≤◌, ◌<◌, ℕ, false, is_some};
 ghost use Rattle.pe_unwind.specs.ListedEpilogues.{all_left, code_left, codes_left, distance_of, epilogue_info};
@@ -10,16 +10,16 @@ use crate::rules::{FunctionUnwind, Rules, Unwound, at_first, popped, rules_of, w
 use crate::unwind_codes::{Operation, UnwindCode};
 use crate::unwind_info::UnwindInfo;
 
-/// What is left of an epilogue's pops.
+/// The state while an epilogue's pops are followed.
 #[derive(Clone, Copy)]
 struct Popping {
-    /// How many bytes of the next pops have run.
+    /// How many bytes of the remaining pops have already run.
     run: u32,
-    /// What the pops before undo that haven't run.
+    /// The state after the earlier pops that haven't run.
     unwound: Unwound,
 }
 
-/// The rules at an offset of a function, if it is in an epilogue that is listed.
+/// The rules at an offset of a function, if it is in a listed epilogue.
 pub(crate) fn listed_rules(function: &FunctionUnwind, offset: u32) -> Option<Rules>
     ensures answer { result ≡ listed_rules function.now offset }
 {
@@ -28,7 +28,7 @@ pub(crate) fn listed_rules(function: &FunctionUnwind, offset: u32) -> Option<Rul
     Some(rules_left(function, behind_start))
 }
 
-/// Whether an offset of a function is in an epilogue that is listed.
+/// Whether an offset of a function is in a listed epilogue.
 pub(crate) fn is_listed(function: &FunctionUnwind, offset: u32) -> bool
     ensures answer { result ≡ is_some (listed_rules function.now offset) }
 {
@@ -51,7 +51,7 @@ pub(crate) fn next_listed(function: &FunctionUnwind, from: u32, end: u32) -> u32
     end
 }
 
-// The operation info of a code that lists an epilogue.
+// The operation info of a code, if it lists an epilogue.
 fn epilogue_info(operation: Operation) -> Option<u8>
     ensures { result ≡ epilogue_info operation }
 {
@@ -61,7 +61,7 @@ fn epilogue_info(operation: Operation) -> Option<u8>
     }
 }
 
-// The register of a code that says that one was pushed.
+// The register of a code, if it says that one was pushed.
 fn pushed(operation: Operation) -> Option<Register>
     ensures { result ≡ pushed operation }
 {
@@ -71,7 +71,7 @@ fn pushed(operation: Operation) -> Option<Register>
     }
 }
 
-// How far an offset is behind the start of an epilogue, if it is in that epilogue.
+// The distance of an offset from the start of an epilogue, if it is in that epilogue.
 fn offset_in(function_size: u32, size: u8, distance: u32, offset: u32) -> Option<u32>
     ensures { result ≡ offset_in function_size size distance offset }
 {
@@ -85,14 +85,14 @@ fn offset_in(function_size: u32, size: u8, distance: u32, offset: u32) -> Option
     None
 }
 
-// How far before the function's end an epilogue starts that a code behind the first one lists.
+// The distance of an epilogue's start from the function's end, by a code after the first one.
 fn distance_of(low: u8, high: u8) -> u32
     ensures { result ≡ distance_of low high }
 {
     u32::from(low) + u32::from(high) * 256
 }
 
-// The same for the epilogues that codes behind the first one list.
+// The distance of an offset from the start of its epilogue, if codes after the first one list that.
 fn in_others(function_size: u32, size: u8, offset: u32, codes: &[UnwindCode]) -> Option<u32>
     ensures { result ≡ in_others function_size size offset codes.now }
 {
@@ -106,7 +106,7 @@ fn in_others(function_size: u32, size: u8, offset: u32, codes: &[UnwindCode]) ->
     None
 }
 
-// The same for all epilogues that are listed.
+// The distance of an offset from the start of its epilogue, if it is in a listed one.
 fn in_listed(function_size: u32, offset: u32, codes: &[UnwindCode]) -> Option<u32>
     ensures { result ≡ in_listed function_size offset codes.now }
 {
@@ -128,7 +128,8 @@ fn pop_size(register: Register) -> u32
     if index(register) < 8 { 1 } else { 2 }
 }
 
-// What the pop of a register undoes, by how many bytes of it and of the pops behind it have run.
+// The state after the pop of a register, which is skipped if it has already run. `run` is how many bytes of it and of
+// the later pops have.
 fn pop_left(run: u32, register: Register, unwound: Unwound) -> Unwound
     ensures { result ≡ pop_left run register unwound }
 {
@@ -138,7 +139,7 @@ fn pop_left(run: u32, register: Register, unwound: Unwound) -> Unwound
     popped(8, with_saved(register, unwound.stack, unwound))
 }
 
-// The same, for a code of a register that was pushed.
+// The state after a code, if it says that a register was pushed.
 fn code_left(register: Option<Register>, popping: Popping) -> Popping
     ensures { result ≡ code_left register popping }
 {
@@ -151,7 +152,7 @@ fn code_left(register: Option<Register>, popping: Popping) -> Popping
     }
 }
 
-// The same for some codes.
+// The state after some codes.
 fn codes_left(codes: &[UnwindCode], popping: Popping) -> Popping
     ensures { result ≡ codes_left codes.now popping }
 {
@@ -162,7 +163,7 @@ fn codes_left(codes: &[UnwindCode], popping: Popping) -> Popping
     left
 }
 
-// The same for the codes of some infos.
+// The state after the codes of some infos.
 fn infos_left(infos: &[UnwindInfo], popping: Popping) -> Popping
     ensures { result ≡ infos_left infos.now popping }
 {
@@ -173,7 +174,7 @@ fn infos_left(infos: &[UnwindInfo], popping: Popping) -> Popping
     left
 }
 
-// Nothing is undone, and so many bytes of an epilogue have run.
+// The state before any pop is followed, when `run` bytes of the epilogue have already run.
 fn all_left(run: u32) -> Popping
     ensures { result ≡ all_left run }
 {
@@ -183,7 +184,7 @@ fn all_left(run: u32) -> Popping
     }
 }
 
-// The rules so many bytes behind the start of an epilogue.
+// The rules at a distance of `run` bytes from the start of an epilogue.
 fn rules_left(function: &FunctionUnwind, run: u32) -> Rules
     ensures { result ≡ rules_left function.now run }
 {

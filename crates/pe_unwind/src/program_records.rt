@@ -1,4 +1,4 @@
-//! All unwind records of a program: those of its exception directory's entries, and those of leaf functions.
+//! Writes all unwind records of a program: those of its exception directory's entries, and those of leaf functions.
 
 ghost use Rattle.std.specs.Prelude.{◌≡◌, IfOk, OnOk};
 ghost use Rattle.pe_unwind.specs.Functions.{function_at};
@@ -15,9 +15,9 @@ use std::marker::Model;
 /// The unwind records of a program, as text.
 #[derive(Drop)]
 pub struct UnwindRecords {
-    /// A line for each record.
+    /// One line for each record.
     pub text: String,
-    /// The entries of the exception directory that have no records, in their order.
+    /// The entries of the exception directory that get no records, in file order.
     pub left_out: Vec<OmittedEntry>,
 }
 
@@ -30,7 +30,7 @@ impl Model for UnwindRecords {
     ghost view = { λ records. record { text = string_bytes records.text; left_out = records.left_out.items } };
 }
 
-/// An entry of the exception directory that has no records.
+/// An entry of the exception directory that gets no records.
 #[derive(Debug, Clone, Copy, PartialEq, Eq)]
 pub struct OmittedEntry {
     /// The address of its function's first byte, relative to the image base.
@@ -38,8 +38,8 @@ pub struct OmittedEntry {
     pub why: EntryError,
 }
 
-/// The unwind records of a program for x64: those of each entry of its exception directory, in this order, and behind
-/// them those of leaf functions, which have no entry.
+/// The unwind records of a program for x64: those of each entry of its exception directory in file order, and then
+/// those of leaf functions, which have no entry.
 pub fn unwind_records(alloc: Global, image: &Image<'_>) -> Result<UnwindRecords, AllocError>
     ensures answer { IfOk result (AreUnwindRecords image.now) }
 {
@@ -70,7 +70,7 @@ fn add_entries(
     Ok(())
 }
 
-// Appends the records of an entry, or else leaves it out.
+// Appends the records of an entry, or lists it as one without records.
 fn add_entry(
     alloc: Global,
     records: &mut UnwindRecords,

@@ -24,7 +24,7 @@ pub enum Register {
     R15,
 }
 
-/// The register that has this number in instructions and in unwind codes. Numbers above 14 are all taken for r15.
+/// The register with this number in instructions and unwind codes. All numbers above 14 mean r15.
 pub(crate) fn numbered(number: usize) -> Register
     ensures { result ≡ register number }
 {

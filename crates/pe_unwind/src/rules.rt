@@ -1,4 +1,4 @@
-//! What unwind infos say at an offset: where the caller's stack pointer, return address and registers are.
+//! Computes an offset's rules from unwind infos: where the caller's stack pointer, return address and registers are.
 
 ghost use Rattle.std.specs.Prelude.{◌≡◌, ◌↔◌, IsTrue, true};
 ghost use Rattle.std.specs.List.{list_any};
@@ -12,20 +12,20 @@ use crate::registers::{Register, index};
 use crate::unwind_codes::{Operation, UnwindCode};
 use crate::unwind_info::{FrameRegister, UnwindInfo};
 
-/// A place in memory: so many bytes above where a register points.
+/// A place in memory: this many bytes above where a register points.
 #[derive(Debug, Clone, Copy, PartialEq, Eq)]
 pub struct RegisterOffset {
     pub register: Register,
-    /// In bytes. A negative offset stands as its two's complement.
+    /// The offset in bytes. A negative offset is a two's complement.
     pub offset: u64,
 }
 
 /// Where the caller's stack pointer is, which is the canonical frame address.
 #[derive(Debug, Clone, Copy, PartialEq, Eq)]
 pub enum Cfa {
-    /// It is the address of this place.
+    /// The stack pointer is the address of this place.
     Sum(RegisterOffset),
-    /// It is stored at this place.
+    /// The stack pointer is stored at this place.
     Loaded(RegisterOffset),
 }
 
@@ -35,17 +35,17 @@ pub struct Rules {
     pub cfa: Cfa,
     /// Where the return address is stored.
     pub return_address: RegisterOffset,
-    /// Where each register is stored, by its number. `None` if the caller has the register's value still.
+    /// Where each register is stored, by its number. `None` if the register still has the caller's value.
     pub saved: [Option<RegisterOffset>; 16],
 }
 
-/// What has been undone of a function's prologue.
+/// The state while a function's prologue is undone.
 #[derive(Clone, Copy)]
 pub(crate) struct Unwound {
     /// Where the stack pointer points.
     pub(crate) stack: RegisterOffset,
     pub(crate) saved: [Option<RegisterOffset>; 16],
-    /// Whether a machine frame was undone, behind which nothing follows.
+    /// Whether a machine frame was undone. It is always the last step.
     pub(crate) is_trapped: bool,
 }
 
@@ -54,10 +54,10 @@ pub(crate) struct Unwound {
 pub struct FunctionUnwind {
     /// The address of its first byte, relative to the image base.
     pub begin: u32,
-    /// The address behind its last byte.
+    /// The address just after its last byte.
     pub end: u32,
     pub own: UnwindInfo,
-    /// The infos that its own is chained to, one after the other.
+    /// The infos to which its own one is chained, in the order of the chain.
     pub parents: Vec<UnwindInfo>,
 }
 
@@ -69,7 +69,7 @@ impl std::marker::Model for FunctionUnwind {
     ghost view = { λ f. record { begin = f.begin; end = f.end; own = f.own; parents = f.parents.items } };
 }
 
-/// A place so many bytes above another.
+/// The place `bytes` bytes above another one.
 pub(crate) fn above(place: RegisterOffset, bytes: u64) -> RegisterOffset
     ensures { result ≡ above place bytes }
 {
@@ -79,7 +79,7 @@ pub(crate) fn above(place: RegisterOffset, bytes: u64) -> RegisterOffset
     }
 }
 
-/// Before anything is undone.
+/// The state before anything is undone.
 pub(crate) fn at_first() -> Unwound
     ensures { result ≡ at_first }
 {
@@ -90,7 +90,7 @@ pub(crate) fn at_first() -> Unwound
     }
 }
 
-/// With a register saved at a place.
+/// The state with a register saved at a place.
 pub(crate) fn with_saved(register: Register, place: RegisterOffset, unwound: Unwound) -> Unwound
     ensures { result ≡ with_saved register place unwound }
 {
@@ -103,7 +103,7 @@ pub(crate) fn with_saved(register: Register, place: RegisterOffset, unwound: Unw
     }
 }
 
-/// With the stack pointer so many bytes higher.
+/// The state with the stack pointer `bytes` bytes higher.
 pub(crate) fn popped(bytes: u64, unwound: Unwound) -> Unwound
     ensures { result ≡ popped bytes unwound }
 {
@@ -115,7 +115,7 @@ pub(crate) fn popped(bytes: u64, unwound: Unwound) -> Unwound
     }
 }
 
-/// The rules where so much is undone.
+/// The rules when this state is reached at the end.
 pub(crate) fn rules_of(unwound: Unwound) -> Rules
     ensures { result ≡ rules_of unwound }
 {
@@ -132,7 +132,7 @@ pub(crate) fn rules_of(unwound: Unwound) -> Rules
     }
 }
 
-/// An offset in the prologue of an info, or `None` behind it.
+/// The offset if it is in the prologue of an info; `None` after the prologue.
 pub(crate) fn prologue_offset(info: &UnwindInfo, offset: u32) -> Option<u32>
     ensures { result ≡ prologue_offset info.now offset }
 {
@@ -142,7 +142,7 @@ pub(crate) fn prologue_offset(info: &UnwindInfo, offset: u32) -> Option<u32>
     None
 }
 
-/// The rules at an offset in the prologue, or behind it (`None`), outside of epilogues.
+/// The rules outside of epilogues: at an offset in the prologue, or after the prologue (`None`).
 pub(crate) fn body_rules(function: &FunctionUnwind, offset: Option<u32>) -> Rules
     ensures { result ≡ body_rules function.now offset }
 {
@@ -160,7 +160,7 @@ pub(crate) fn stack_top() -> RegisterOffset
     }
 }
 
-// The place where a frame begins.
+// The start of the frame, by the frame register.
 fn frame_start(frame: FrameRegister) -> RegisterOffset
     ensures { result ≡ frame_start frame }
 {
@@ -170,14 +170,14 @@ fn frame_start(frame: FrameRegister) -> RegisterOffset
     }
 }
 
-/// A number taken off an address.
+/// An address minus a number, modulo 2^64.
 pub(crate) fn less(address: u64, bytes: u64) -> u64
     ensures { result ≡ less address bytes }
 {
     address.wrapping_sub(bytes)
 }
 
-// The stack pointer where a code set the frame register.
+// The state with the stack pointer at the start of the frame.
 fn at_frame(frame: Option<FrameRegister>, unwound: Unwound) -> Unwound
     ensures { result ≡ at_frame frame unwound }
 {
@@ -194,7 +194,7 @@ fn at_frame(frame: Option<FrameRegister>, unwound: Unwound) -> Unwound
     }
 }
 
-// With a machine frame undone.
+// The state with a machine frame undone.
 fn trapped(unwound: Unwound) -> Unwound
     ensures { result ≡ record unwound { is_trapped = true } }
 {
@@ -206,7 +206,7 @@ fn trapped(unwound: Unwound) -> Unwound
     }
 }
 
-// What one operation undoes.
+// The state after one operation is undone.
 fn undone(
     frame: Option<FrameRegister>,
     start: RegisterOffset,
@@ -230,7 +230,7 @@ fn undone(
     }
 }
 
-// Whether a code counts at an offset in the prologue, or behind it.
+// Whether a code counts: its instruction has run at this offset of the prologue, or the offset is after the prologue.
 fn counts(offset: Option<u32>, code: UnwindCode) -> bool
     ensures { result ≡ counts offset code }
 {
@@ -240,7 +240,7 @@ fn counts(offset: Option<u32>, code: UnwindCode) -> bool
     }
 }
 
-// An offset, if it is after another and before an end; else this end.
+// The offset `from` if it is after `offset` and before `end`, otherwise `end`.
 fn sooner(offset: u32, from: u32, end: u32) -> u32
     ensures { result ≡ sooner offset from end }
 {
@@ -251,7 +251,7 @@ fn sooner(offset: u32, from: u32, end: u32) -> u32
     }
 }
 
-// The first offset after another at which one more code counts, if it is before an end; else this end.
+// The first offset after `offset` at which one more code counts, if it is before `end`, otherwise `end`.
 fn next_counted(offset: u32, end: u32, codes: &[UnwindCode]) -> u32
     ensures { result ≡ next_counted offset end codes.now }
 {
@@ -262,8 +262,8 @@ fn next_counted(offset: u32, end: u32, codes: &[UnwindCode]) -> u32
     next
 }
 
-/// The first offset after one in the prologue at which one more code counts, or else the prologue's end. It is at most
-/// the function's size.
+/// The first offset after one in the prologue at which one more code counts, or else the end of the prologue. It is at
+/// most the function's size.
 pub(crate) fn next_step(function: &FunctionUnwind, offset: u32, size: u32) -> u32
     ensures { result ≡ next_step function.now offset size }
 {
@@ -271,7 +271,7 @@ pub(crate) fn next_step(function: &FunctionUnwind, offset: u32, size: u32) -> u3
     next_counted(offset, end, &function.own.codes)
 }
 
-// What one code undoes.
+// The state after one code is undone, if it counts.
 fn code_undone(
     frame: Option<FrameRegister>,
     start: RegisterOffset,
@@ -287,7 +287,7 @@ fn code_undone(
     undone(frame, start, code.operation, unwound)
 }
 
-// What some codes undo, one after the other.
+// The state after some codes are undone in turn.
 fn codes_undone(
     frame: Option<FrameRegister>,
     start: RegisterOffset,
@@ -318,7 +318,7 @@ fn any_sets_frame(offset: Option<u32>, codes: &[UnwindCode]) -> bool
     codes.iter().any(|code| sets_frame(offset, *code))
 }
 
-// The place that a frame with this register begins at, once the register is set.
+// The base of the frame: the start given by the frame register if that is set, otherwise the stack pointer.
 fn start_once(frame: Option<FrameRegister>, set: bool) -> RegisterOffset
     ensures { result ≡ start_once frame set }
 {
@@ -328,7 +328,7 @@ fn start_once(frame: Option<FrameRegister>, set: bool) -> RegisterOffset
     }
 }
 
-// The place that SAVE codes count from.
+// The place from which the offsets of SAVE codes count.
 fn saves_from(offset: Option<u32>, info: &UnwindInfo) -> RegisterOffset
     ensures { result ≡ saves_from offset info.now }
 {
@@ -336,7 +336,7 @@ fn saves_from(offset: Option<u32>, info: &UnwindInfo) -> RegisterOffset
     start_once(info.frame, set)
 }
 
-// What an info undoes at an offset in its prologue, or behind it.
+// The state after an info is undone, at an offset in its prologue or after it.
 fn info_undone(offset: Option<u32>, info: &UnwindInfo, unwound: Unwound) -> Unwound
     ensures { result ≡ info_undone offset info.now unwound }
 {
@@ -349,7 +349,7 @@ fn info_undone(offset: Option<u32>, info: &UnwindInfo, unwound: Unwound) -> Unwo
     )
 }
 
-// What the parents of a chained info undo.
+// The state after the parents of a chained info are undone.
 fn parents_undone(parents: &[UnwindInfo], unwound: Unwound) -> Unwound
     ensures { result ≡ parents_undone parents.now unwound }
 {

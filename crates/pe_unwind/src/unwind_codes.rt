@@ -1,4 +1,4 @@
-//! Unwind codes: what the instructions of a function's prologue did, from the last one to the first.
+//! Reads unwind codes: what the instructions of a function's prologue did, from the last one to the first.
 
 ghost use Rattle.std.specs.Prelude.{◌≡◌, ◌≤◌, ◌<◌, IfSome};
 ghost use Rattle.pe_unwind.specs.UnwindErrors.{Gives};
@@ -35,31 +35,31 @@ const UWOP_PUSH_MACHFRAME: u8 = 10;
 /// What an instruction of the prologue did.
 #[derive(Debug, Clone, Copy, PartialEq, Eq)]
 pub enum Operation {
-    /// It pushed a register.
+    /// Pushed a register.
     Push(Register),
-    /// It moved the stack pointer down by so many bytes.
+    /// Moved the stack pointer down by this many bytes.
     Allocate(u32),
-    /// It set the frame register.
+    /// Set the frame register.
     SetFrame,
-    /// It stored a register, so many bytes above the frame's base.
+    /// Stored a register this many bytes above the base of the frame.
     Save(Register, u32),
-    /// The processor pushed a machine frame, with an error code or without.
+    /// A machine frame that the processor pushed, with an error code or without.
     MachineFrame(bool),
     /// An epilogue of version 2, with the operation info.
     Epilogue(u8),
-    /// Nothing that concerns general registers.
+    /// An operation that doesn't affect general registers.
     Unseen,
 }
 
 /// An unwind code.
 #[derive(Debug, Clone, Copy, PartialEq, Eq)]
 pub struct UnwindCode {
-    /// The offset behind the instruction, in bytes from the function's start.
+    /// The end of the instruction, in bytes from the function's start.
     pub offset: u8,
     pub operation: Operation,
 }
 
-/// All unwind codes in these bytes.
+/// Reads all unwind codes in these bytes.
 #[tactic(auto, unfolding(crate::specs::UnwindCodes::unwind_codes))]
 pub(crate) fn unwind_codes(
     alloc: Global,
@@ -81,7 +81,7 @@ pub(crate) fn unwind_codes(
     Ok(codes)
 }
 
-// The code at the front, and the bytes behind it.
+// Reads the first code, and returns it with the bytes after it.
 fn first_code(version: u8, bytes: &[u8]) -> Result<(UnwindCode, &[u8]), UnwindError>
     ensures { Gives (λ read. (read.0, read.1.now)) result (first_code version bytes.now) }
 {
@@ -92,7 +92,7 @@ fn first_code(version: u8, bytes: &[u8]) -> Result<(UnwindCode, &[u8]), UnwindEr
     code_of(bytes, count)
 }
 
-// The code that takes so many slots at the front, and the bytes behind it.
+// Reads the first code, which takes `count` slots, and returns it with the bytes after it.
 fn code_of(bytes: &[u8], count: usize) -> Result<(UnwindCode, &[u8]), UnwindError>
     requires some { 1 ≤ count }
     requires few { count ≤ 3 }
@@ -128,7 +128,7 @@ fn slot_count(version: u8, kind: u8, info: u8) -> Option<usize>
     }
 }
 
-// What a code says that was done.
+// The operation of a code.
 fn operation_of(kind: u8, info: u8, operands: &[u8]) -> Operation
     requires { info < 16 }
     ensures { result ≡ operation_of kind info operands.now }
@@ -153,7 +153,7 @@ fn operation_of(kind: u8, info: u8, operands: &[u8]) -> Operation
     }
 }
 
-// The number in the slot behind a code.
+// The number in the slot after a code.
 fn small_operand(operands: &[u8]) -> u32
     ensures answer { result ≡ small_operand operands.now }
     ensures small { result < 65536 }
@@ -161,7 +161,7 @@ fn small_operand(operands: &[u8]) -> u32
     u32::from(u16_at(operands, 0).unwrap_or(0))
 }
 
-// The number in the two slots behind a code.
+// The number in the two slots after a code.
 fn large_operand(operands: &[u8]) -> u32
     ensures { result ≡ large_operand operands.now }
 {

@@ -1,15 +1,15 @@
-//! Why the unwind info of a function can't be read.
+//! Errors of reading a function's unwind info.
 
 use std::alloc::{AllocError, AllocFailed};
 use thiserror::Error;
 
-/// Why an entry of the exception directory is left out.
+/// Why an entry of the exception directory gets no records.
 #[derive(Debug, Clone, Copy, PartialEq, Eq, Error)]
 pub enum EntryError {
-    /// The function ends where it begins, or before.
+    /// The function ends at or before its start.
     #[error("the function ends before it begins")]
     Empty,
-    /// The function reaches past the end of the image.
+    /// The function extends past the end of the image.
     #[error("the function is outside of the image")]
     OutsideOfImage,
     /// The function begins before the end of one that is listed earlier.
@@ -35,9 +35,9 @@ pub enum EntryError {
 /// Why reading an entry of the exception directory ended early.
 #[derive(Debug, Clone, Copy, PartialEq, Eq)]
 pub enum UnwindError {
-    /// The entry is left out; others are not affected.
+    /// The entry gets no records; other entries aren't affected.
     Refused(EntryError),
-    /// There was no memory.
+    /// Memory ran out.
     OutOfMemory,
 }
 

@@ -1,4 +1,4 @@
-//! UNWIND_INFO: what the unwind info of a function says, and the infos that it is chained to.
+//! Reads UNWIND_INFO, the unwind info of a function, and the infos to which it is chained.
 
 ghost use Rattle.std.specs.Prelude.{◌≡◌, ◌≤◌, length};
 ghost use Rattle.pe_unwind.specs.UnwindErrors.{Gives};
@@ -18,10 +18,10 @@ const HEADER: usize = 4;
 /// The size of an entry of the exception directory in bytes.
 const ENTRY: usize = 12;
 
-/// How many infos one is chained to at most.
+/// The maximum length of a chain of infos.
 const MOST_PARENTS: usize = 32;
 
-/// The register that a function addresses its frame by.
+/// The register by which a function addresses its frame.
 #[derive(Debug, Clone, Copy, PartialEq, Eq)]
 pub struct FrameRegister {
     pub register: Register,
@@ -29,7 +29,7 @@ pub struct FrameRegister {
     pub offset: u8,
 }
 
-/// What an unwind info says.
+/// An unwind info.
 #[derive(Drop)]
 pub struct UnwindInfo {
     /// 1 or 2.
@@ -37,9 +37,9 @@ pub struct UnwindInfo {
     /// The size of the prologue in bytes.
     pub prologue_size: u8,
     pub frame: Option<FrameRegister>,
-    /// The codes, as they are listed: that of the last instruction first.
+    /// The codes in file order: that of the last instruction comes first.
     pub codes: Vec<UnwindCode>,
-    /// The address of the info that this one is chained to, relative to the image base.
+    /// The address of the info to which this one is chained, relative to the image base.
     pub parent: Option<u32>,
 }
 
@@ -57,7 +57,7 @@ impl Model for UnwindInfo {
     } };
 }
 
-/// The infos that an info is chained to, one after the other.
+/// Reads the infos to which an info is chained, in the order of the chain.
 #[tactic(auto, unfolding(crate::specs::UnwindInfo::parents_of))]
 pub(crate) fn parents_of(
     alloc: Global,
@@ -82,7 +82,7 @@ pub(crate) fn parents_of(
     Ok(parents)
 }
 
-/// What the info says that an entry leads to.
+/// Reads the info to which an entry refers.
 #[tactic(auto, unfolding(crate::specs::UnwindInfo::info_at))]
 pub(crate) fn info_at(alloc: Global, image: &Image<'_>, rva: u32) -> Result<UnwindInfo, UnwindError>
     ensures answer { Gives (λ info. info) result (info_at image.now rva) }
@@ -91,7 +91,7 @@ pub(crate) fn info_at(alloc: Global, image: &Image<'_>, rva: u32) -> Result<Unwi
     info_in(alloc, image.bytes_from(address))
 }
 
-// The address of the info that an entry leads to.
+// The address of the info to which an entry refers.
 fn info_address(image: &Image<'_>, rva: u32) -> Result<u32, UnwindError>
     ensures answer { Gives (λ address. address) result (info_address image.now rva) }
 {
@@ -105,7 +105,7 @@ fn info_address(image: &Image<'_>, rva: u32) -> Result<u32, UnwindError>
     Ok(function_entry_at(entry).info)
 }
 
-// What the info says that begins with these bytes.
+// Reads the info at the start of these bytes.
 fn info_in(alloc: Global, bytes: &[u8]) -> Result<UnwindInfo, UnwindError>
     ensures answer { Gives (λ info. info) result (info_in bytes.now) }
 {
@@ -128,7 +128,7 @@ fn info_in(alloc: Global, bytes: &[u8]) -> Result<UnwindInfo, UnwindError>
     })
 }
 
-// The frame register, by the byte that has it.
+// Decodes the frame register from its byte.
 fn frame_of(byte: u8) -> Option<FrameRegister>
     ensures answer { result ≡ frame_of byte }
 {
@@ -155,7 +155,7 @@ fn code_bytes(bytes: &[u8]) -> Result<&[u8], UnwindError>
     Ok(slots)
 }
 
-// Where the entry of the info's parent is.
+// The offset of the parent's entry.
 fn parent_at(slots: u8) -> usize
     ensures answer { result ≡ parent_at slots }
     ensures near { result ≤ 516 }
@@ -164,7 +164,7 @@ fn parent_at(slots: u8) -> usize
     HEADER + 2 * (slots + slots % 2)
 }
 
-// The address of the info that this one is chained to.
+// The address of the info to which this one is chained, if any.
 fn parent_of(bytes: &[u8]) -> Result<Option<u32>, UnwindError>
     requires { 4 ≤ length bytes.now }
     ensures answer { Gives (λ parent. parent) result (parent_of bytes.now) }

@@ -1,5 +1,5 @@
--- The canonical prologue that packed unwind data says, and the epilogue that belongs to it, as operations: that of the
--- last instruction of the prologue first.
+-- The canonical prologue of packed unwind data, and the epilogue that belongs to it, as operations: the last
+-- instruction of the prologue comes first.
 use Rattle.std.specs.Prelude.{ℕ, zero, suc, ◌-◌, ◌*◌, ◌/◌, ◌%◌, ◌==◌, ◌&&◌, ◌||◌, not, nat_le, List, [], ◌∷◌}
 use Rattle.std.specs.Prelude.{◌++◌, replicate, if◌then◌else◌}
 use Rattle.pe_unwind_arm64.specs.Packed.{is_chained, is_moved, is_saved, is_signed, local_size, saved_size}
@@ -11,18 +11,18 @@ use Rattle.pe_unwind_arm64.specs.declared.unwind_codes.Operation.TheVariants.{Al
 use Rattle.pe_unwind_arm64.specs.declared.unwind_codes.Operation.TheVariants.{Save, SaveFloats, SavePair}
 use Rattle.pe_unwind_arm64.specs.declared.unwind_codes.Operation.TheVariants.{SaveWithLink, SetFrame, Unseen}
 
--- the stack pointer was moved down: in two steps where one instruction doesn't reach
+-- the stack pointer was moved down: in two steps if one instruction can't move it so far
 abbrev pub allocated : ℕ → List Operation
 allocated bytes =
     if bytes == 0 then [] else
     if nat_le bytes 4080 then Allocate bytes ∷ [] else
     Allocate (bytes - 4080) ∷ Allocate 4080 ∷ []
 
--- x29 and x30 were stored at the bottom of the frame: where one instruction reaches, it moved the stack pointer, too
+-- x29 and x30 were stored at the bottom of the frame; if one instruction can do it, it also moved the stack pointer
 abbrev pub chain_part : ℕ → List Operation
 chain_part bytes = if nat_le bytes 512 then PushPair X29 bytes ∷ [] else SavePair X29 0 ∷ allocated bytes
 
--- what is left of the frame was allocated, with x29 and x30 in it if they belong there
+-- the rest of the frame was allocated, with x29 and x30 in it if they belong there
 abbrev pub local_part : Packed → List Operation
 local_part packed =
     if is_chained packed.link then chain_part (local_size packed) else allocated (local_size packed)
@@ -31,7 +31,7 @@ local_part packed =
 abbrev pub first_float : Packed → Operation
 first_float packed = if is_moved packed then SaveFloats else PushFloats (saved_size packed)
 
--- the registers from d8 on were stored, in pairs, the last one alone if they are odd
+-- the registers from d8 on were stored in pairs; of an odd number, the last one alone
 abbrev pub float_part : Packed → List Operation
 float_part packed =
     if packed.floats == 0 then [] else replicate (packed.floats / 2) SaveFloats ++ first_float packed ∷ []
@@ -43,24 +43,24 @@ link_part packed =
     (if packed.registers == 0 then Push X30 (saved_size packed) ∷ [] else Save X30 (8 * packed.registers) ∷ [])
     else []
 
--- the store of the last register, which has no pair, so many registers after x19: with x30 if this belongs there
+-- the store of the last register, which has no pair, `number` registers after x19; with x30 if this belongs there
 abbrev pub last_register : Packed → ℕ → Operation
 last_register packed number =
     if is_saved packed.link then SaveWithLink (register number) (8 * number) else Save (register number) (8 * number)
 
--- the last register was stored, if they are odd
+-- the last register was stored, if their number is odd
 abbrev pub odd_part : Packed → List Operation
 odd_part packed =
     if packed.registers % 2 == 0 then [] else
     if packed.registers == 1 then Push X19 (saved_size packed) ∷ [] else
     last_register packed (packed.registers - 1) ∷ []
 
--- a pair was stored, by how many pairs are before it: the first one moved the stack pointer
+-- a pair was stored, by the number of pairs before it; the first one also moved the stack pointer
 abbrev pub pair_operation : ℕ → ℕ → Operation
 pair_operation saved number =
     if number == 0 then PushPair X19 saved else SavePair (register (2 * number)) (16 * number)
 
--- so many pairs were stored, the last one first
+-- this many pairs were stored, the last one first
 abbrev pub pair_part : ℕ → ℕ → List Operation
 pair_part saved zero = []
 pair_part saved (suc number) = pair_operation saved number ∷ pair_part saved number
@@ -69,7 +69,7 @@ pair_part saved (suc number) = pair_operation saved number ∷ pair_part saved n
 abbrev pub sign_part : Packed → List Operation
 sign_part packed = if is_signed packed.link then Unseen ∷ [] else []
 
--- the registers were stored, those that are the caller's
+-- the callee-saved registers were stored
 abbrev pub saved_part : Packed → List Operation
 saved_part packed = float_part packed
     ++ (link_part packed
@@ -85,7 +85,7 @@ abbrev pub home_part : Packed → List Operation
 home_part packed =
     if packed.is_homed then Unseen ∷ Unseen ∷ Unseen ∷ first_home packed ∷ [] else []
 
--- parameters aren't loaded again, but where their store moved the stack pointer it is moved back
+-- parameters aren't loaded again; if their store moved the stack pointer, it is moved back
 abbrev pub unhome_part : Packed → List Operation
 unhome_part packed =
     if packed.is_homed && not (is_moved packed || not (packed.floats == 0)) then Allocate (saved_size packed) ∷ []
@@ -95,10 +95,10 @@ unhome_part packed =
 abbrev pub frame_part : Packed → List Operation
 frame_part packed = if is_chained packed.link then SetFrame ∷ [] else []
 
--- what the prologue did, from the last instruction to the first
+-- the operations of the prologue, from the last instruction to the first
 abbrev pub prologue_part : Packed → List Operation
 prologue_part packed = frame_part packed ++ (local_part packed ++ (home_part packed ++ saved_part packed))
 
--- what the epilogue undoes, from its first instruction to the last: x29 isn't used for it
+-- the operations that the epilogue undoes, from its first instruction to the last; it doesn't use x29
 abbrev pub epilogue_part : Packed → List Operation
 epilogue_part packed = local_part packed ++ (unhome_part packed ++ saved_part packed)

@@ -29,28 +29,29 @@ same_found (BelowCfa a) (BelowCfa b) = a == b
 same_found (At a) (At b) = same_place a b
 same_found a b = false
 
--- where a place is by the caller's stack pointer: below it, if both are counted from the same register; else by itself
+-- a place relative to the caller's stack pointer: below it, if both count from the same register; otherwise the place
+-- itself
 abbrev pub place_by : RegisterOffset → RegisterOffset → RegisterRule
 place_by cfa place = if same_base cfa place then BelowCfa (less cfa.offset place.offset) else At place
 
--- how a register is found by the place where it is saved; it is unchanged if it isn't
+-- how a register is found, by the place where it is saved; a register that isn't saved is unchanged
 abbrev pub found_by : RegisterOffset → Option RegisterOffset → RegisterRule
 found_by cfa None = Unchanged
 found_by cfa (Some place) = place_by cfa place
 
--- the place that a record says, by the caller's stack pointer; none for a register that is unchanged
+-- the place in a record, relative to the caller's stack pointer; none for an unchanged register
 abbrev pub place_known : RegisterOffset → RegisterRule → Option RegisterOffset
 place_known cfa Unchanged = None
 place_known cfa (BelowCfa bytes) = Some (record cfa { offset = less cfa.offset bytes })
 place_known cfa (At place) = Some place
 
--- what rules say as records do: the caller's stack pointer, and by it the return address and each register
+-- rules in the form of records: the caller's stack pointer, and relative to it the return address and each register
 pub record Written : Type 0 where
   pub cfa : RegisterOffset
   pub return_address : RegisterRule
   pub registers : List RegisterRule
 
--- these rules, as records say them
+-- these rules in the form of records
 abbrev pub written : Rules → Written
 written rules = record {
   cfa = rules.cfa;
@@ -58,7 +59,7 @@ written rules = record {
   registers = map (found_by rules.cfa) rules.saved;
 }
 
--- an item where a rule changes, else none
+-- an item if a rule changes, otherwise none
 abbrev pub if_changed : Bool → CfiItem → List CfiItem
 if_changed same item = if same then [] else item ∷ []
 
@@ -82,24 +83,24 @@ later_items old new =
     ++ (if_changed (same_found old.return_address new.return_address) (ReturnItem new.return_address)
     ++ register_items 0 old.registers new.registers)
 
--- what a reader of records knows of an item: it takes the place of what was known
+-- the rules of a reader after an item, which replaces the old rule
 abbrev pub item_read : CfiItem → Written → Written
 item_read (CfaItem cfa) known = record known { cfa = cfa }
 item_read (ReturnItem found) known = record known { return_address = found }
 item_read (RegisterItem register found) known =
     record known { registers = slice_set known.registers (index register) found }
 
--- the same for items, one after the other
+-- the rules of a reader after several items
 abbrev pub items_read : List CfiItem → Written → Written
 items_read [] known = known
 items_read (item ∷ items) known = items_read items (item_read item known)
 
--- a record: its items, which hold from an offset of the function on
+-- a record: its items, which apply from an offset of the function on
 pub record CfiRecord : Type 0 where
   pub offset : ℕ
   pub items : List CfiItem
 
--- the records of the lines after one with these rules: what changes from line to line
+-- the records of the lines after a line with these rules: the changes from line to line
 abbrev pub later_records : Rules → List CfiLine → List CfiRecord
 later_records old [] = []
 later_records old (line ∷ lines) = record {
@@ -107,28 +108,28 @@ later_records old (line ∷ lines) = record {
   items = later_items (written old) (written line.rules);
 } ∷ later_records line.rules lines
 
--- the records of a function's lines: all that the first one says, and then what changes from line to line
+-- the records of a function's lines: all rules of the first line, then the changes from line to line
 abbrev pub records : List CfiLine → List CfiRecord
 records [] = []
 records (line ∷ lines) =
     record { offset = line.offset; items = first_items (written line.rules) } ∷ later_records line.rules lines
 
--- what a reader knows before any record: each register is unchanged
+-- the rules of a reader before any record: each register is unchanged
 abbrev pub nothing_known : Written
 nothing_known = record { cfa = stack_top; return_address = Unchanged; registers = replicate 12 Unchanged }
 
--- what a reader knows at an offset, who knew so much before: each record at the offset or before it is read, in order
+-- the rules of a reader at an offset, starting from these rules: each record at or before the offset is read, in order
 abbrev pub known_behind : List CfiRecord → ℕ → Written → Written
 known_behind [] offset known = known
 known_behind (one ∷ others) offset known =
     known_behind others offset (if nat_le one.offset offset then items_read one.items known else known)
 
--- each line says of twelve registers where they are saved
+-- each line has the places of twelve registers
 abbrev pub AreWhole : List CfiLine → Type 0
 AreWhole [] = Unit {0}
 AreWhole (line ∷ lines) = (length line.rules.saved ≡ 12) × AreWhole lines
 
--- records let a reader know, at each offset of a function, what the function's rules there say
+-- a reader of the records finds the function's rules at each of its offsets
 abbrev pub LetKnow : List CfiRecord → Result Function EntryError → Type 0
 LetKnow all (Ok function) = (offset : ℕ) → offset < size_of function
     → known_behind all offset nothing_known ≡ written (rule_at function.info offset)

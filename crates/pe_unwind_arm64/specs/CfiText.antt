@@ -35,7 +35,7 @@ name X28 = codes "x28"
 name X29 = codes "x29"
 name X30 = codes "x30"
 
--- a register that places are counted from as Breakpad writes it
+-- a base register of places, as Breakpad writes it
 abbrev pub base_name : BaseRegister → List ℕ
 base_name Sp = codes "sp"
 base_name Fp = codes "x29"
@@ -44,7 +44,7 @@ base_name Fp = codes "x29"
 abbrev pub hexadecimal : ℕ → List ℕ
 hexadecimal number = digits 16 false number
 
--- a number of 64 bits in decimal digits: from 2 ^ 63 on it is a negative one
+-- a 64-bit number in decimal digits; from 2 ^ 63 on it is negative
 abbrev pub signed_decimal : ℕ → List ℕ
 signed_decimal number =
     if nat_lt number (2 ^ 63) then decimal number else codes "-" ++ decimal (2 ^ 64 - number)
@@ -59,7 +59,7 @@ found_text own Unchanged = own
 found_text own (BelowCfa bytes) = codes ".cfa " ++ (signed_decimal bytes ++ codes " - ^")
 found_text own (At place) = place_text place ++ codes " ^"
 
--- an item: a space, a name, a colon, and how this is found
+-- an item: a space, a name, a colon, and how the register is found
 unfoldable pub item_text : CfiItem → List ℕ
 item_text (CfaItem cfa) = codes " .cfa: " ++ place_text cfa
 item_text (ReturnItem found) = codes " .ra: " ++ found_text (name X30) found
@@ -84,14 +84,14 @@ later_texts begin old [] = []
 later_texts begin old (line ∷ lines) =
     later_text (begin + line.offset) old line.rules ++ later_texts begin line.rules lines
 
--- the records of a function, by the address that it begins at, its size in bytes, and its lines
+-- the records of a function, by its start address, its size in bytes, and its lines
 abbrev pub function_text : ℕ → ℕ → List CfiLine → List ℕ
 function_text begin size [] = []
 function_text begin size (line ∷ lines) =
     first_text begin size line.rules ++ later_texts begin line.rules lines
 
--- a text has the records of a function at its end: those of lines that ascend within the function, and that let a reader
--- know the function's rules
+-- a text ends with the records of a function. Their lines ascend within the function, and a reader finds the function's
+-- rules in them
 abbrev pub ShowText : List ℕ → List ℕ → Result Function EntryError → Type 0
 ShowText old new (Ok function) = (lines : List CfiLine)
     × (new ≡ old ++ function_text function.begin (size_of function) lines)

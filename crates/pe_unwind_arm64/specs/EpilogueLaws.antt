@@ -1,4 +1,4 @@
--- Where in a function its epilogues have their rules. Offsets are counted in instructions.
+-- Laws on the rules in epilogues. Offsets count instructions.
 use Rattle.std.specs.Prelude.{◌≡◌, ◌≤◌, ◌<◌, ℕ, List, ◌∷◌, ◌++◌, Ok}
 use Rattle.pe_image.specs.Image.{Program}
 use Rattle.pe_image.specs.declared.arm64_directory.Arm64Entry.{Arm64Entry}

@@ -16,8 +16,8 @@ use Rattle.pe_unwind_arm64.specs.declared.unwind_errors.EntryError.{EntryError}
 use Rattle.pe_unwind_arm64.specs.declared.unwind_errors.EntryError.TheVariants.{Empty, OutsideOfImage, Overlapping, ReservedFlag}
 use Rattle.pe_unwind_arm64.specs.declared.rules.Rules.{Rules}
 
--- the unwind info of an entry, by its UnwindData: if the low two bits are 0, it is at the address that this is; if they are
--- 1 or 2, it is packed in the other bits
+-- the unwind info of an entry, by its UnwindData. If the low two bits are 0, UnwindData is the address of the info; if
+-- they are 1 or 2, the info is packed in the other bits
 abbrev pub info_of : Program → ℕ → Result Info EntryError
 info_of program unwind =
     if unwind % 4 == 0 then info_in (bytes_from program unwind) else
@@ -28,29 +28,29 @@ info_of program unwind =
 abbrev pub body_rules : Info → Rules
 body_rules info = rules_behind 0 info.codes
 
--- the rules after so many instructions of an epilogue: their codes, from the epilogue's first on, aren't to be undone
+-- the rules at an offset of an epilogue: the codes of its instructions before the offset aren't undone
 abbrev pub epilogue_rules : Info → Epilogue → ℕ → Rules
 epilogue_rules info epilogue offset = rules_behind (offset - epilogue.start) (codes_from epilogue.index info.codes)
 
--- whether the first of the epilogues that are left has begun at an offset
+-- whether the first of these epilogues has begun at an offset
 abbrev pub is_begun : List Epilogue → ℕ → Bool
 is_begun [] offset = false
 is_begun (epilogue ∷ epilogues) offset = nat_le epilogue.start offset
 
--- the rules at an offset after the prologue, by the epilogues that don't end before it: those of the epilogue that has
--- begun, else those of the body
+-- the rules at an offset after the prologue, by the epilogues that end after it: those of the epilogue that has begun,
+-- otherwise those of the body
 abbrev pub rules_by : Info → List Epilogue → ℕ → Rules
 rules_by info [] offset = body_rules info
 rules_by info (epilogue ∷ epilogues) offset =
     if nat_le epilogue.start offset then epilogue_rules info epilogue offset else body_rules info
 
--- the rules at an offset, by the epilogues that don't end before it: in the prologue the codes of the instructions that
--- haven't run aren't to be undone, which are the first ones
+-- the rules at an offset, by the epilogues that end after it. In the prologue, the first codes, whose instructions
+-- haven't run, aren't undone
 abbrev pub rules_among : Info → List Epilogue → ℕ → Rules
 rules_among info left offset =
     if nat_lt offset info.prologue then rules_behind (info.prologue - offset) info.codes else rules_by info left offset
 
--- whether the rules at an offset are those of the function's body, by the epilogues that don't end before it
+-- whether the rules at an offset are those of the function's body, by the epilogues that end after it
 abbrev pub is_plain : Info → List Epilogue → ℕ → Bool
 is_plain info left offset = nat_le info.prologue offset && not (is_begun left offset)
 
@@ -58,11 +58,11 @@ is_plain info left offset = nat_le info.prologue offset && not (is_begun left of
 unfoldable pub rules_before : Info → ℕ → Rules
 rules_before info instruction = rules_among info (epilogues_left instruction info.epilogues) instruction
 
--- the rules at an offset of a function in bytes: those before the instruction that it is in, which has not run
+-- the rules at a byte offset of a function: those before the instruction at this offset, which has not run
 abbrev pub rule_at : Info → ℕ → Rules
 rule_at info offset = rules_before info (offset / 4)
 
--- a function: the address that it begins at, its length in instructions, and its unwind info
+-- a function: its start address, its length in instructions, and its unwind info
 pub record Function : Type 0 where
   pub begin : ℕ
   pub length : ℕ
@@ -79,8 +79,8 @@ length_of program unwind =
     if unwind % 4 == 3 then Err ReservedFlag else
     Ok (packed_length unwind)
 
--- the length of a function that begins at an address, if this is at or after an address, up to which the functions before
--- it reach, if it isn't empty, and if the image has bytes for all of it
+-- the length of a function that begins at this address. The function must begin at or after the address up to which the
+-- functions before it reach, must not be empty, and the image must have all its bytes
 abbrev pub checked : Program → ℕ → ℕ → ℕ → Result ℕ EntryError
 checked program reach begin count =
     if count == 0 then Err Empty else
@@ -100,11 +100,11 @@ function_at program reach entry = do
   info ← info_of program entry.unwind
   Ok (record { begin = entry.begin; length = length; info = info })
 
--- the address that functions reach up to after one that begins at an address and has this length, if it isn't refused
+-- the address up to which functions reach after one with this start and length, if it isn't refused
 abbrev pub reach_by : ℕ → ℕ → Result ℕ EntryError → ℕ
 reach_by reach begin (Ok length) = begin + 4 * length
 reach_by reach begin (Err refusal) = reach
 
--- the address that functions reach up to after an entry: where this one ends, if it isn't refused
+-- the address up to which functions reach after an entry: the end of this one, if it isn't refused
 abbrev pub reach_behind : Program → ℕ → Arm64Entry → ℕ
 reach_behind program reach entry = reach_by reach entry.begin (length_at program reach entry)

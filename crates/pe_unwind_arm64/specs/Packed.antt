@@ -1,11 +1,11 @@
--- Packed unwind data: the numbers that say which canonical prologue a function has.
+-- Packed unwind data: the numbers that determine the canonical prologue of a function.
 use Rattle.std.specs.Prelude.{ℕ, ◌+◌, ◌-◌, ◌*◌, ◌/◌, ◌%◌, ◌==◌, ◌||◌, Bool, true, false, not, if◌then◌else◌}
 use Rattle.pe_unwind_arm64.specs.declared.packed_data.Link.{Link}
 use Rattle.pe_unwind_arm64.specs.declared.packed_data.Link.TheVariants.{Chain, Kept, Saved, SignedChain}
 use Rattle.pe_unwind_arm64.specs.declared.packed_data.Packed.{Packed}
 
--- what the two bits of CR say that was done with x30: nothing; it was stored after the other registers; it was signed,
--- and stored with x29, which was set to the stack pointer; or the same, and it wasn't signed
+-- what was done with x30, by the two bits of CR: nothing; stored after the other registers; signed, and stored with
+-- x29, which was set to the stack pointer; or the last without signing
 abbrev pub link_of : ℕ → Link
 link_of number =
     if number == 0 then Kept else
@@ -17,9 +17,9 @@ link_of number =
 abbrev pub packed_length : ℕ → ℕ
 packed_length number = number / 4 % 2048
 
--- the numbers that are packed: whether there are a prologue and an epilogue, which flag 1 says; how many registers from d8
--- on were stored, less one (RegF, 3 bits), and how many from x19 on (RegI, 4 bits); whether parameters were stored (H);
--- what was done with x30 (CR, 2 bits); and the size of the frame in units of 16 bytes (FrameSize, 9 bits)
+-- the packed numbers: whether there are a prologue and an epilogue (flag 1); how many registers from d8 on were stored,
+-- less one (RegF, 3 bits); how many from x19 on (RegI, 4 bits); whether parameters were stored (H); what was done with
+-- x30 (CR, 2 bits); and the size of the frame in units of 16 bytes (FrameSize, 9 bits)
 abbrev pub packed_of : ℕ → Packed
 packed_of number = record {
   has_ends = number % 4 == 1;
@@ -46,23 +46,23 @@ abbrev pub is_signed : Link → Bool
 is_signed SignedChain = true
 is_signed link = false
 
--- how many bytes the registers from x19 on take, with x30 if it was stored after them
+-- the size of the stored registers from x19 on, in bytes, with x30 if it was stored after them
 abbrev pub register_size : Packed → ℕ
 register_size packed = 8 * packed.registers + (if is_saved packed.link then 8 else 0)
 
--- how many bytes the registers from d8 on take
+-- the size of the stored registers from d8 on, in bytes
 abbrev pub float_size : Packed → ℕ
 float_size packed = if packed.floats == 0 then 0 else 8 * packed.floats + 8
 
--- how many bytes the parameters take, x0 to x7
+-- the size of the stored parameters in bytes, x0 to x7
 abbrev pub home_size : Packed → ℕ
 home_size packed = if packed.is_homed then 64 else 0
 
--- how many bytes all that was stored takes, rounded up to 16
+-- the size of all stored registers in bytes, rounded up to 16
 abbrev pub saved_size : Packed → ℕ
 saved_size packed = (register_size packed + float_size packed + home_size packed + 15) / 16 * 16
 
--- how many bytes of the frame are left for the rest
+-- the size of the rest of the frame in bytes
 abbrev pub local_size : Packed → ℕ
 local_size packed = packed.frame - saved_size packed
 

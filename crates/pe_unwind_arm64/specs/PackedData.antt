@@ -1,4 +1,4 @@
--- The unwind info that packed unwind data says: the codes of the canonical prologue, and of the epilogue that belongs to it.
+-- The unwind info of packed unwind data: the codes of the canonical prologue, and of the epilogue that belongs to it.
 use Rattle.std.specs.Prelude.{ℕ, ◌+◌, ◌==◌, ◌&&◌, Bool, not, nat_le, nat_lt, List, [], ◌∷◌, ◌++◌, length}
 use Rattle.std.specs.Prelude.{Result, Ok, Err, if◌then◌else◌}
 use Rattle.pe_unwind_arm64.specs.Canonical.{epilogue_part, prologue_part}
@@ -13,11 +13,11 @@ use Rattle.pe_unwind_arm64.specs.declared.unwind_codes.Operation.{Operation}
 use Rattle.pe_unwind_arm64.specs.declared.unwind_codes.Operation.TheVariants.{End}
 use Rattle.pe_unwind_arm64.specs.declared.unwind_codes.UnwindCode.{UnwindCode}
 
--- all of it, each part with its end
+-- the operations of the prologue and of the epilogue, each with an end
 abbrev pub both_parts : Packed → List Operation
 both_parts packed = prologue_part packed ++ (End ∷ (epilogue_part packed ++ (End ∷ [])))
 
--- operations as codes, numbered from a number on
+-- operations as codes, with indices from `number` on
 abbrev pub numbered_from : ℕ → List Operation → List UnwindCode
 numbered_from number [] = []
 numbered_from number (operation ∷ operations) =
@@ -27,7 +27,7 @@ numbered_from number (operation ∷ operations) =
 unfoldable pub as_codes : List Operation → List UnwindCode
 as_codes operations = numbered_from 0 operations
 
--- whether there is a canonical prologue that stores so many registers: at most ten, and not x19 alone with x30
+-- whether there is a canonical prologue with this many stored registers: at most ten, and not x19 alone with x30
 abbrev pub is_canonical : Packed → Bool
 is_canonical packed =
     nat_le packed.registers 10 && not ((packed.registers == 1) && is_saved packed.link)
@@ -39,13 +39,14 @@ ends_info count index codes = do
   epilogue ← last_epilogue count codes index
   Ok (record { codes = codes; prologue = prologue; epilogues = epilogue ∷ [] })
 
--- the unwind info, by codes, of a function of so many instructions, or of a part of one, without prologue and epilogue
+-- the unwind info, by its codes, of a function of `count` instructions, or of a part of one without prologue and
+-- epilogue
 abbrev pub packed_by : Packed → ℕ → List UnwindCode → Result Info EntryError
 packed_by packed count codes =
     if packed.has_ends then ends_info count (length (prologue_part packed) + 1) codes
     else Ok (record { codes = codes; prologue = 0; epilogues = [] })
 
--- the unwind info that packed data says of a function of so many instructions
+-- the unwind info of packed data, for a function of `count` instructions
 abbrev pub packed_info : Packed → ℕ → Result Info EntryError
 packed_info packed count =
     if not (is_canonical packed) then Err PackedRegisters else

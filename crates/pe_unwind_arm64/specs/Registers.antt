@@ -1,4 +1,4 @@
--- The registers of ARM64 that a function keeps for its caller, and their numbers; registers that places are counted from.
+-- The callee-saved registers of ARM64 and their numbers; the base registers of places.
 use Rattle.std.specs.Prelude.{ℕ, ◌+◌, ◌==◌, if◌then◌else◌}
 use Rattle.pe_unwind_arm64.specs.declared.registers.BaseRegister.{BaseRegister}
 use Rattle.pe_unwind_arm64.specs.declared.registers.BaseRegister.TheVariants.{Fp, Sp}
@@ -6,7 +6,7 @@ use Rattle.pe_unwind_arm64.specs.declared.registers.Register.{Register}
 use Rattle.pe_unwind_arm64.specs.declared.registers.Register.TheVariants.{X19, X20, X21, X22, X23, X24, X25, X26}
 use Rattle.pe_unwind_arm64.specs.declared.registers.Register.TheVariants.{X27, X28, X29, X30}
 
--- the register that is so many after x19; numbers above 10 are all taken for x30
+-- the register this many after x19; numbers above 10 all mean x30
 abbrev pub register : ℕ → Register
 register number =
     if number == 0 then X19 else
@@ -22,7 +22,7 @@ register number =
     if number == 10 then X29 else
     X30
 
--- how many registers after x19 a register is
+-- the number of a register, counted from x19
 abbrev pub index : Register → ℕ
 index X19 = 0
 index X20 = 1
@@ -37,11 +37,11 @@ index X28 = 9
 index X29 = 10
 index X30 = 11
 
--- the register after a register, which is stored above it where a pair is stored
+-- the register after a register, which is stored above it in a pair
 abbrev pub second : Register → Register
 second first = register (index first + 1)
 
--- a number of its own for each register that places are counted from
+-- the number of a base register
 abbrev pub base_number : BaseRegister → ℕ
 base_number Sp = 0
 base_number Fp = 1

@@ -1,4 +1,4 @@
--- What unwind codes say at a place in their list: where the caller's stack pointer, the return address and the saved
+-- The unwind rules after some of a function's codes: where the caller's stack pointer, the return address and the saved
 -- registers are.
 use Rattle.std.specs.Prelude.{ℕ, ◌+◌, ◌-◌, ◌%◌, ◌^◌, Bool, true, false, List, [], ◌∷◌, drop}
 use Rattle.std.specs.Prelude.{Option, Some, None, replicate, slice_get, slice_set, unwrap_or, if◌then◌else◌}
@@ -16,15 +16,15 @@ use Rattle.pe_unwind_arm64.specs.declared.unwind_codes.Operation.TheVariants.{Sa
 use Rattle.pe_unwind_arm64.specs.declared.unwind_codes.Operation.TheVariants.{SetFrame, Unseen, Unusable}
 use Rattle.pe_unwind_arm64.specs.declared.unwind_codes.UnwindCode.{UnwindCode}
 
--- the sum of two addresses: addresses have 64 bits, and a negative number stands as its two's complement
+-- the sum of two 64-bit addresses; a negative number is its two's complement
 abbrev pub sum_of : ℕ → ℕ → ℕ
 sum_of a b = (a + b) % 2 ^ 64
 
--- a number taken off an address
+-- an address minus a number
 abbrev pub less : ℕ → ℕ → ℕ
 less a b = (a + (2 ^ 64 - b)) % 2 ^ 64
 
--- a place so many bytes above another
+-- the place this many bytes above another
 abbrev pub above : RegisterOffset → ℕ → RegisterOffset
 above place bytes = record place { offset = sum_of place.offset bytes }
 
@@ -32,7 +32,7 @@ above place bytes = record place { offset = sum_of place.offset bytes }
 abbrev pub stack_top : RegisterOffset
 stack_top = record { base = Sp; offset = 0 }
 
--- the place so many bytes below where x29 points
+-- the place this many bytes below the address in x29
 abbrev pub below_frame : ℕ → RegisterOffset
 below_frame bytes = record { base = Fp; offset = less 0 bytes }
 
@@ -44,7 +44,7 @@ nothing_saved = replicate 12 None
 abbrev pub at_first : Unwound
 at_first = record { stack = stack_top; saved = nothing_saved }
 
--- a register is saved at a place; where it is saved twice, the place that comes last counts
+-- a register is saved at a place; of several places, the last one counts
 abbrev pub with_saved : Register → RegisterOffset → Unwound → Unwound
 with_saved register place unwound = record unwound { saved = slice_set unwound.saved (index register) (Some place) }
 
@@ -56,8 +56,8 @@ with_pair one other place unwound = with_saved other (above place 8) (with_saved
 abbrev pub popped : ℕ → Unwound → Unwound
 popped bytes unwound = record unwound { stack = above unwound.stack bytes }
 
--- what one operation undoes: where the stack pointer was moved down, it points higher; what was stored is where it was
--- stored, above the stack pointer; where x29 was set, the stack pointer is by it
+-- the effect of undoing one operation: the stack pointer moves back up, a stored register is at its place above the
+-- stack pointer, and a set x29 gives the stack pointer
 abbrev pub undone : Operation → Unwound → Unwound
 undone (Allocate bytes) u = popped bytes u
 undone (Save register offset) u = with_saved register (above u.stack offset) u
@@ -79,14 +79,14 @@ abbrev pub is_end : Operation → Bool
 is_end End = true
 is_end operation = false
 
--- what some codes undo, one after the other, up to the end code: after the end of the function's own codes those go on
--- of the function that it is a part of
+-- the effect of undoing codes, in order, up to the end code. After the end of the function's own codes come those of
+-- the function of which it is a part
 abbrev pub codes_undone : List UnwindCode → Unwound → Unwound
 codes_undone [] u = u
 codes_undone (code ∷ codes) u = if is_end code.operation then u else codes_undone codes (undone code.operation u)
 
--- the rules where so much is undone: the caller's stack pointer is where the stack pointer is, and the return address is
--- where x30 is, or in x30 still
+-- the rules after this much is undone: the caller's stack pointer is the stack pointer, and the return address is where
+-- x30 is stored, or in x30
 abbrev pub rules_of : Unwound → Rules
 rules_of u = record {
   cfa = u.stack;
@@ -94,6 +94,6 @@ rules_of u = record {
   saved = u.saved;
 }
 
--- the rules where so many codes at the front of some aren't to be undone, and the others are
+-- the rules if all codes but the first `count` are undone
 abbrev pub rules_behind : ℕ → List UnwindCode → Rules
 rules_behind count codes = rules_of (codes_undone (drop count codes) at_first)

@@ -13,7 +13,7 @@ use Rattle.pe_unwind_arm64.specs.declared.unwind_codes.Operation.TheVariants.{Sa
 use Rattle.pe_unwind_arm64.specs.declared.unwind_codes.Operation.TheVariants.{SetFrame, Unseen, Unusable}
 use Rattle.pe_unwind_arm64.specs.declared.unwind_codes.UnwindCode.{UnwindCode}
 
--- how many bytes a code takes, by its first byte
+-- the size of a code in bytes, by its first byte
 abbrev pub code_size : ℕ → ℕ
 code_size byte =
     if nat_lt byte 0xc0 then 1 else
@@ -28,9 +28,9 @@ abbrev pub IsNear : Operation → Type 0
 IsNear (SavePair first offset) = offset < 1024
 IsNear operation = Unit {0}
 
--- what a code of one byte below C0 says that was done: alloc_s (000xxxxx) moved the stack pointer down by units of 16
--- bytes; save_r19r20_x (001zzzzz) did so by units of 8 and stored x19 and x20 there; save_fplr (01zzzzzz) stored x29 and
--- x30 at units of 8; save_fplr_x (10zzzzzz) moved the stack pointer by one unit more than it says, and stored them there
+-- the operation of a one-byte code below C0: alloc_s (000xxxxx) moved the stack pointer down by units of 16 bytes;
+-- save_r19r20_x (001zzzzz) moved it by units of 8 and stored x19 and x20 there; save_fplr (01zzzzzz) stored x29 and x30
+-- at units of 8; save_fplr_x (10zzzzzz) moved the stack pointer by one unit more than its number, and stored them there
 abbrev pub short_operation : ℕ → Operation
 short_operation byte =
     if nat_lt byte 0x20 then Allocate (byte * 16) else
@@ -38,14 +38,14 @@ short_operation byte =
     if nat_lt byte 0x80 then SavePair X29 ((byte - 0x40) * 8) else
     PushPair X29 ((byte - 0x80) * 8 + 8)
 
--- the operation on a register, if there is such a register: the last of them is so many after x19
+-- the operation on a register, if the register exists; `last` is the number of the last one after x19
 abbrev pub if_known : ℕ → Operation → Operation
 if_known last operation = if nat_le last 11 then operation else Unusable UnknownRegister
 
--- what a code says that was done with registers of general use, by its first byte and by the number that its two bytes
--- are, the first one the higher: save_regp (110010xx xxzzzzzz) and save_regp_x (110011xx xxzzzzzz) of a pair that is so
--- many after x19, save_reg (110100xx xxzzzzzz) and save_reg_x (1101010x xxxzzzzz) of one register, save_lrpair
--- (1101011x xxzzzzzz) of a register that is twice so many after x19, and x30
+-- the operation of a code on general registers, by its first byte and by its two bytes as a big-endian number.
+-- save_regp (110010xx xxzzzzzz) and save_regp_x (110011xx xxzzzzzz) store a pair that is x after x19; save_reg
+-- (110100xx xxzzzzzz) and save_reg_x (1101010x xxxzzzzz) store one register; save_lrpair (1101011x xxzzzzzz) stores the
+-- register that is 2x after x19, and x30
 abbrev pub save_operation : ℕ → ℕ → Operation
 save_operation byte number =
     if nat_lt byte 0xcc then
@@ -58,8 +58,8 @@ save_operation byte number =
     if_known (number / 32 % 16) (Push (register (number / 32 % 16)) (number % 32 * 8 + 8)) else
     if_known (2 * (number / 64 % 8) + 1) (SaveWithLink (register (2 * (number / 64 % 8))) (number % 64 * 8))
 
--- what a code says that was done with registers d8 to d15, which aren't shown: save_fregp (1101100x xxzzzzzz) stored a
--- pair, save_fregp_x (1101101x xxzzzzzz) moved the stack pointer, too; save_freg (1101110x xxzzzzzz) and save_freg_x
+-- the operation of a code on the registers d8 to d15, which aren't shown: save_fregp (1101100x xxzzzzzz) stored a pair,
+-- and save_fregp_x (1101101x xxzzzzzz) also moved the stack pointer; save_freg (1101110x xxzzzzzz) and save_freg_x
 -- (11011110 xxxzzzzz) did so with one register
 abbrev pub float_operation : ℕ → ℕ → Operation
 float_operation byte number =
@@ -68,8 +68,8 @@ float_operation byte number =
     if nat_lt byte 0xde then Unseen else
     Allocate (number % 32 * 8 + 8)
 
--- what a code of two bytes says that was done, by the first byte and the number that both are: alloc_m
--- (11000xxx xxxxxxxx) moved the stack pointer down by units of 16 bytes; alloc_z (DF) did so by units of a vector's size
+-- the operation of a two-byte code, by the first byte and by both as a number: alloc_m (11000xxx xxxxxxxx) moved the
+-- stack pointer down by units of 16 bytes; alloc_z (DF) moved it by units of a vector's size
 abbrev pub long_operation : ℕ → ℕ → Operation
 long_operation byte number =
     if nat_lt byte 0xc8 then Allocate (number % 2048 * 16) else
@@ -77,18 +77,18 @@ long_operation byte number =
     if byte == 0xdf then Unusable ScalableVectors else
     float_operation byte number
 
--- the number in the two bytes that a code begins with, the first one the higher
+-- the first two bytes of a code as a big-endian number
 abbrev pub number_of_two : List ℕ → ℕ
 number_of_two bytes = slice_index bytes 0 * 256 + slice_index bytes 1
 
--- the number in the three bytes after the first one of a code, the first of them the highest
+-- the three bytes after the first one of a code as a big-endian number
 abbrev pub large_number : List ℕ → ℕ
 large_number bytes = slice_index bytes 1 * 65536 + slice_index bytes 2 * 256 + slice_index bytes 3
 
--- what a code says that was done whose first byte is E0 or above: alloc_l (E0) moved the stack pointer down by units of
--- 16 bytes; set_fp (E1) set x29 to the stack pointer, and add_fp (E2) to so many units of 8 bytes above it; nop (E3) and
--- pac_sign_lr (FC) did nothing that is shown, so a return address that is signed keeps the bits of its signature; end (E4)
--- and end_c (E5) are no instructions of a prologue; save_next (E6) is none of its own
+-- the operation of a code whose first byte is E0 or above. alloc_l (E0) moved the stack pointer down by units of 16
+-- bytes; set_fp (E1) set x29 to the stack pointer, and add_fp (E2) to a number of 8-byte units above it. nop (E3) and
+-- pac_sign_lr (FC) did nothing that is shown, so a signed return address keeps the bits of its signature. end (E4) and
+-- end_c (E5) are no instructions of a prologue; save_next (E6) has no operation of its own
 abbrev pub other_operation : ℕ → List ℕ → Operation
 other_operation byte bytes =
     if byte == 0xe0 then Allocate (large_number bytes * 16) else
@@ -103,7 +103,7 @@ other_operation byte bytes =
     if byte == 0xfc then Unseen else
     Unusable UnknownCode
 
--- what the code says that was done that bytes begin with, if they have all of it
+-- the operation of the first code, if the bytes have all of it
 abbrev pub own_operation : List ℕ → Operation
 own_operation bytes =
     if nat_lt (length bytes) (code_size (slice_index bytes 0)) then Unusable CodesCut else
@@ -111,14 +111,14 @@ own_operation bytes =
     if nat_lt (slice_index bytes 0) 0xe0 then long_operation (slice_index bytes 0) (number_of_two bytes) else
     other_operation (slice_index bytes 0) bytes
 
--- the pair that is so many pairs after one, and as many times 16 bytes above it; x27 and x28 are the last such pair
+-- storing the pair that is `count` pairs after another, and 16 bytes higher for each; the last such pair is x27 and x28
 abbrev pub pair_behind : ℕ → Register → ℕ → Operation
 pair_behind count first offset =
     if nat_le (index first + 2 * count) 8 then SavePair (register (index first + 2 * count)) (offset + 16 * count)
     else Unusable NextOfNoPair
 
--- what the first of so many save_next codes says that was done, by the operation of the code after them: the pair after
--- that code's was stored, or, by the first of more of them, the pair so many after it
+-- the operation of the first of `count` save_next codes, by the operation of the code after them: it stored the pair
+-- that is `count` pairs after that code's
 abbrev pub operation_behind : ℕ → Operation → Operation
 operation_behind count (SavePair first offset) = pair_behind count first offset
 operation_behind count (PushPair first bytes) = pair_behind count first 0
@@ -130,22 +130,22 @@ operation_behind count operation = Unusable NextOfNoPair
 abbrev pub is_next : List ℕ → Bool
 is_next bytes = slice_index bytes 0 == 0xe6
 
--- what a save_next code says that was done, by the bytes after it and so many more such codes: at most so many of these
--- are passed
+-- the operation of a save_next code, by the bytes after it and the number `count` of such codes so far; at most this
+-- many more are skipped
 abbrev pub next_up_to : ℕ → ℕ → List ℕ → Operation
 next_up_to zero count bytes = operation_behind count (own_operation bytes)
 next_up_to (suc left) count bytes =
     if is_next bytes then next_up_to left (count + 1) (drop 1 bytes) else operation_behind count (own_operation bytes)
 
--- what a save_next code says that was done, by the bytes after it; no pair is more than four after another
+-- the operation of a save_next code, by the bytes after it; no pair is more than four after another
 unfoldable pub next_operation : List ℕ → Operation
 next_operation bytes = next_up_to 4 1 bytes
 
--- what the code says that was done that bytes begin with
+-- the operation of the first code
 abbrev pub operation_of : List ℕ → Operation
 operation_of bytes = if is_next bytes then next_operation (drop 1 bytes) else own_operation bytes
 
--- at most so many codes, until the bytes end: each with its index, which is how many bytes of all are before it
+-- at most this many codes, until the bytes end; each has its index, the number of bytes before it
 abbrev pub codes_up_to : ℕ → ℕ → List ℕ → List UnwindCode
 codes_up_to zero total bytes = []
 codes_up_to (suc count) total bytes =
@@ -153,11 +153,11 @@ codes_up_to (suc count) total bytes =
     record { index = total - length bytes; operation = operation_of bytes }
     ∷ codes_up_to count total (drop (code_size (slice_index bytes 0)) bytes)
 
--- all codes in these bytes: each takes a byte or more, so there are no more of them than bytes
+-- all codes in these bytes. Each takes at least one byte, so there are at most as many codes as bytes
 unfoldable pub codes_in : List ℕ → List UnwindCode
 codes_in bytes = codes_up_to (length bytes) (length bytes) bytes
 
--- the codes from the one with an index on; none if no code has it
+-- the codes from the one with this index on; none if no code has it
 abbrev pub codes_from : ℕ → List UnwindCode → List UnwindCode
 codes_from index [] = []
 codes_from index (code ∷ codes) = if code.index == index then code ∷ codes else codes_from index codes

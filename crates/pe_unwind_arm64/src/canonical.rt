@@ -1,4 +1,4 @@
-//! The canonical prologue that packed unwind data says, and the epilogue that belongs to it, as operations.
+//! The operations of the canonical prologue that packed unwind data describes, and of its epilogue.
 
 ghost use Rattle.std.specs.Prelude.{◌≡◌, ◌++◌, replicate, OnOk};
 ghost use Rattle.pe_unwind_arm64.specs.Canonical.{allocated, chain_part, epilogue_part, first_float, first_home};
@@ -14,13 +14,13 @@ use crate::registers::{Register, numbered};
 use crate::unwind_codes::Operation;
 use std::alloc::AllocError;
 
-/// The most that one instruction allocates.
+/// The maximum number of bytes that one instruction allocates.
 const MOST_ALLOCATED: u32 = 4080;
 
-/// The most that the instruction allocates that stores x29 and x30.
+/// The maximum number of bytes that the instruction allocates that stores x29 and x30.
 const MOST_PUSHED: u32 = 512;
 
-// Appends how the stack pointer was moved down.
+// Appends the operations that moved the stack pointer down.
 fn push_allocated(operations: &mut Vec<Operation>, bytes: u32) -> Result<(), AllocError>
     ensures { OnOk result (operations.new.items ≡ operations.old.items ++ allocated bytes) }
 {
@@ -36,7 +36,7 @@ fn push_allocated(operations: &mut Vec<Operation>, bytes: u32) -> Result<(), All
     Ok(())
 }
 
-// Appends how x29 and x30 were stored at the bottom of the frame.
+// Appends the operations that stored x29 and x30 at the bottom of the frame.
 fn push_chain(operations: &mut Vec<Operation>, bytes: u32) -> Result<(), AllocError>
     ensures { OnOk result (operations.new.items ≡ operations.old.items ++ chain_part bytes) }
 {
@@ -48,7 +48,7 @@ fn push_chain(operations: &mut Vec<Operation>, bytes: u32) -> Result<(), AllocEr
     push_allocated(operations, bytes)
 }
 
-// Appends how what is left of the frame was allocated.
+// Appends the operations that allocated the rest of the frame.
 fn push_local(operations: &mut Vec<Operation>, packed: Packed) -> Result<(), AllocError>
     ensures { OnOk result (operations.new.items ≡ operations.old.items ++ local_part packed) }
 {
@@ -59,7 +59,7 @@ fn push_local(operations: &mut Vec<Operation>, packed: Packed) -> Result<(), All
     }
 }
 
-// The first store of registers from d8 on.
+// The operation that stored d8 and d9.
 fn first_float(packed: Packed) -> Operation
     ensures { result ≡ first_float packed }
 {
@@ -70,7 +70,7 @@ fn first_float(packed: Packed) -> Operation
     }
 }
 
-// Appends how so many pairs of registers after d8 and d9 were stored.
+// Appends the operations that stored `count` pairs of registers after d8 and d9.
 fn push_floats(operations: &mut Vec<Operation>, count: u8) -> Result<(), AllocError>
     ensures { OnOk result (operations.new.items ≡ operations.old.items ++ replicate count SaveFloats) }
 {
@@ -80,7 +80,7 @@ fn push_floats(operations: &mut Vec<Operation>, count: u8) -> Result<(), AllocEr
     Ok(())
 }
 
-// Appends how the registers from d8 on were stored.
+// Appends the operations that stored the registers from d8 on.
 fn push_float_part(operations: &mut Vec<Operation>, packed: Packed) -> Result<(), AllocError>
     ensures { OnOk result (operations.new.items ≡ operations.old.items ++ float_part packed) }
 {
@@ -92,7 +92,7 @@ fn push_float_part(operations: &mut Vec<Operation>, packed: Packed) -> Result<()
     Ok(())
 }
 
-// Appends how x30 was stored after the other registers.
+// Appends the operation that stored x30 after the other registers, if one did.
 fn push_link(operations: &mut Vec<Operation>, packed: Packed) -> Result<(), AllocError>
     ensures { OnOk result (operations.new.items ≡ operations.old.items ++ link_part packed) }
 {
@@ -107,7 +107,7 @@ fn push_link(operations: &mut Vec<Operation>, packed: Packed) -> Result<(), Allo
     Ok(())
 }
 
-// The store of the last register, which has no pair, so many registers after x19.
+// The operation that stored the last register, which has no pair. It is the `number`th after x19.
 fn last_register(packed: Packed, number: u8) -> Operation
     ensures { result ≡ last_register packed number }
 {
@@ -120,7 +120,7 @@ fn last_register(packed: Packed, number: u8) -> Operation
     }
 }
 
-// Appends how the last register was stored, if they are odd.
+// Appends the operation that stored the last register, if their number is odd.
 fn push_odd(operations: &mut Vec<Operation>, packed: Packed) -> Result<(), AllocError>
     ensures { OnOk result (operations.new.items ≡ operations.old.items ++ odd_part packed) }
 {
@@ -135,7 +135,7 @@ fn push_odd(operations: &mut Vec<Operation>, packed: Packed) -> Result<(), Alloc
     Ok(())
 }
 
-// The store of a pair, by how many pairs are before it.
+// The operation that stored a pair of registers. `number` is how many pairs come before it.
 fn pair_operation(saved: u32, number: u8) -> Operation
     ensures { result ≡ pair_operation saved number }
 {
@@ -146,7 +146,7 @@ fn pair_operation(saved: u32, number: u8) -> Operation
     Operation::SavePair(numbered(2 * number as usize), 16 * number)
 }
 
-// Appends how so many pairs were stored, the last one first.
+// Appends the operations that stored `count` pairs, the last pair first.
 fn push_pairs(operations: &mut Vec<Operation>, saved: u32, count: u8) -> Result<(), AllocError>
     ensures { OnOk result (operations.new.items ≡ operations.old.items ++ pair_part saved count) }
 {
@@ -156,7 +156,7 @@ fn push_pairs(operations: &mut Vec<Operation>, saved: u32, count: u8) -> Result<
     Ok(())
 }
 
-// Appends how x30 was signed.
+// Appends the operation that signed x30, if one did.
 fn push_sign(operations: &mut Vec<Operation>, packed: Packed) -> Result<(), AllocError>
     ensures { OnOk result (operations.new.items ≡ operations.old.items ++ sign_part packed) }
 {
@@ -166,7 +166,7 @@ fn push_sign(operations: &mut Vec<Operation>, packed: Packed) -> Result<(), Allo
     Ok(())
 }
 
-// Appends how the registers were stored that are the caller's.
+// Appends the operations that stored the caller's registers.
 fn push_saved(operations: &mut Vec<Operation>, packed: Packed) -> Result<(), AllocError>
     ensures { OnOk result (operations.new.items ≡ operations.old.items ++ saved_part packed) }
 {
@@ -177,7 +177,7 @@ fn push_saved(operations: &mut Vec<Operation>, packed: Packed) -> Result<(), All
     push_sign(operations, packed)
 }
 
-// The store of the first pair of parameters.
+// The operation that stored the first pair of parameters.
 fn first_home(packed: Packed) -> Operation
     ensures { result ≡ first_home packed }
 {
@@ -188,7 +188,7 @@ fn first_home(packed: Packed) -> Operation
     }
 }
 
-// Appends how the parameters were stored.
+// Appends the operations that stored the parameters, if they were stored.
 fn push_homes(operations: &mut Vec<Operation>, packed: Packed) -> Result<(), AllocError>
     ensures { OnOk result (operations.new.items ≡ operations.old.items ++ home_part packed) }
 {
@@ -201,7 +201,7 @@ fn push_homes(operations: &mut Vec<Operation>, packed: Packed) -> Result<(), All
     Ok(())
 }
 
-// Appends how the stack pointer is moved back that the store of parameters moved.
+// Appends the operation that moves the stack pointer back over the parameters, if their store moved it.
 fn push_unhomed(operations: &mut Vec<Operation>, packed: Packed) -> Result<(), AllocError>
     ensures { OnOk result (operations.new.items ≡ operations.old.items ++ unhome_part packed) }
 {
@@ -211,7 +211,7 @@ fn push_unhomed(operations: &mut Vec<Operation>, packed: Packed) -> Result<(), A
     Ok(())
 }
 
-// Appends how x29 was set.
+// Appends the operation that set x29, if one did.
 fn push_frame(operations: &mut Vec<Operation>, packed: Packed) -> Result<(), AllocError>
     ensures { OnOk result (operations.new.items ≡ operations.old.items ++ frame_part packed) }
 {
@@ -221,7 +221,7 @@ fn push_frame(operations: &mut Vec<Operation>, packed: Packed) -> Result<(), All
     Ok(())
 }
 
-/// Appends what the prologue did.
+/// Appends the operations of the prologue, from the last to the first.
 pub(crate) fn push_prologue(
     operations: &mut Vec<Operation>,
     packed: Packed,
@@ -234,7 +234,7 @@ pub(crate) fn push_prologue(
     push_saved(operations, packed)
 }
 
-/// Appends what the epilogue undoes.
+/// Appends the operations that the epilogue undoes, in its order.
 pub(crate) fn push_epilogue(
     operations: &mut Vec<Operation>,
     packed: Packed,

@@ -1,4 +1,4 @@
-//! Where the epilogues of a function are. Offsets in a function are counted in instructions, of four bytes each.
+//! Finds the epilogues of a function. Offsets in a function are counted in instructions of four bytes.
 
 ghost use Rattle.std.specs.Prelude.{◌≡◌, ◌≤◌, ◌<◌, ◌^◌, false, length, IfOk};
 ghost use Rattle.pe_unwind_arm64.specs.Epilogues.{counts_as, epilogue_of, epilogues_left, last_epilogue, own_count};
@@ -9,31 +9,31 @@ use crate::rules::is_end;
 use crate::unwind_codes::{Operation, UnwindCode, codes_from};
 use crate::unwind_errors::EntryError;
 
-/// An epilogue: the instructions that give a function's frame back, and the one that leaves the function.
+/// An epilogue: the instructions that free a function's frame, and the one that leaves the function.
 #[derive(Debug, Clone, Copy, PartialEq, Eq)]
 pub struct Epilogue {
     /// The offset of its first instruction.
     pub start: usize,
     /// The offset after its last instruction.
     pub end: usize,
-    /// The index of its first code among the bytes of all codes.
+    /// The offset of its first code in the bytes of all codes.
     pub index: usize,
 }
 
-/// How a code counts among those of an instruction each.
+/// What a code means for the number of instructions.
 #[derive(Clone, Copy)]
 enum Counted {
-    /// It stands for one instruction.
+    /// The code means one instruction.
     One,
     /// The function's own codes end here.
     Chained,
     /// All codes end here.
     All,
-    /// It can't be undone.
+    /// The code can't be undone.
     Bad(EntryError),
 }
 
-// How a code counts.
+// What a code with this operation means for the number of instructions.
 fn counts_as(operation: Operation) -> Counted
     ensures { result ≡ counts_as operation }
 {
@@ -45,7 +45,7 @@ fn counts_as(operation: Operation) -> Counted
     }
 }
 
-// With the next code counted, unless the function's own codes have ended.
+// The number of instructions with the next code counted, unless the function's own codes have ended.
 fn with_next(count: usize, chained: bool) -> usize
     requires { count < 2 ^ 63 }
     ensures { result ≡ with_next count chained }
@@ -75,7 +75,7 @@ fn sets_frame(operation: Operation) -> bool
     matches!(operation, Operation::SetFrame | Operation::AddFrame(_))
 }
 
-// Whether x29 was set before it was stored, so that what was stored isn't the caller's.
+// Whether x29 was set before it was stored. Then the stored value isn't the caller's.
 fn is_frame_lost(codes: &[UnwindCode]) -> bool
     ensures { result ≡ is_frame_lost false codes.now }
 {
@@ -92,7 +92,7 @@ fn is_frame_lost(codes: &[UnwindCode]) -> bool
     false
 }
 
-/// How many instructions the codes at the front of some stand for, up to the end of the function's own ones.
+/// The number of instructions of the first codes, up to the end of the function's own ones.
 pub(crate) fn own_count(codes: &[UnwindCode]) -> Result<usize, EntryError>
     ensures answer { result ≡ own_count codes.now }
     ensures bound { IfOk result (λ count. count ≤ length codes.now) }
@@ -103,7 +103,7 @@ pub(crate) fn own_count(codes: &[UnwindCode]) -> Result<usize, EntryError>
     own_count_of(codes)
 }
 
-// The same, where x29 was stored before it was set.
+// The same number, without the check of x29.
 fn own_count_of(codes: &[UnwindCode]) -> Result<usize, EntryError>
     ensures answer { result ≡ own_count_from 0 false codes.now }
     ensures bound { IfOk result (λ count. count ≤ length codes.now) }
@@ -121,8 +121,8 @@ fn own_count_of(codes: &[UnwindCode]) -> Result<usize, EntryError>
     Err(EntryError::CodesCut)
 }
 
-/// The epilogue that begins at an offset and whose codes are those from an index on. `reach` is the end of the one before
-/// it, and `length` that of the function.
+/// The epilogue that begins at an offset and whose codes begin at an index. `reach` is the end of the epilogue before
+/// it, and `length` the length of the function.
 pub(crate) fn epilogue_of(
     reach: usize,
     length: u32,
@@ -147,7 +147,7 @@ pub(crate) fn epilogue_of(
     })
 }
 
-/// The epilogue that ends where its function does, and whose codes are those from an index on.
+/// The epilogue at the end of its function, whose codes begin at an index.
 pub(crate) fn last_epilogue(
     length: u32,
     codes: &[UnwindCode],
@@ -167,7 +167,7 @@ pub(crate) fn last_epilogue(
     })
 }
 
-/// The epilogues that don't end at an offset or before it.
+/// The epilogues that end after an offset.
 pub(crate) fn epilogues_left(offset: usize, epilogues: &[Epilogue]) -> &[Epilogue]
     ensures { result.now ≡ epilogues_left offset epilogues.now }
 {

@@ -1,4 +1,4 @@
-//! The functions of the exception directory, with their unwind infos, and the rules at each offset.
+//! Reads a function of the exception directory with its unwind info, and gives the rules at each offset.
 
 ghost use Rattle.std.specs.Prelude.{◌≡◌, ◌≤◌, ◌<◌, ◌+◌, ◌*◌, ◌^◌, IfOk};
 ghost use Rattle.pe_unwind_arm64.specs.EpilogueLaws.{RulesOutside, RulesWithin};
@@ -34,12 +34,12 @@ impl Model for FunctionUnwind {
     ghost view = { λ f. record { begin = f.begin; length = f.length; info = f.info } };
 }
 
-/// The function of an entry. `reach` is the end of the functions before it. It is refused if it is empty, if the image has
-/// no bytes for all of it, if it begins before `reach`, or if its unwind info can't be read.
+/// Reads the function of an entry. `reach` is the end of the functions before it. An error is returned if the function
+/// is empty, if the image doesn't have all its bytes, if it begins before `reach`, or if its unwind info can't be read.
 ///
 /// # Errors
 ///
-/// Answers why the entry is left out, or that memory ran out.
+/// Why the entry is omitted, or that memory ran out.
 pub fn read_function(
     alloc: Global,
     image: &Image<'_>,
@@ -58,7 +58,7 @@ pub fn read_function(
     })
 }
 
-// The unwind info of an entry, by its UnwindData.
+// Reads the unwind info of an entry, by its UnwindData.
 fn info_of(alloc: Global, image: &Image<'_>, unwind: u32) -> Result<UnwindInfo, UnwindError>
     ensures answer { Gives (λ info. info) result (info_of image.now unwind) }
 {
@@ -86,8 +86,8 @@ fn length_of(image: &Image<'_>, unwind: u32) -> Result<u32, EntryError>
     Ok(packed_length(unwind))
 }
 
-// The length of a function that begins at an address, if this is at or after the end of the functions before it, if it
-// isn't empty, and if the image has bytes for all of it.
+// Checks the length of a function that begins at an address: it must begin at or after the end of the functions before
+// it, must not be empty, and the image must have all its bytes.
 fn checked(image: &Image<'_>, reach: u32, begin: u32, length: u32) -> Result<u32, EntryError>
     requires { length < 2 ^ 18 }
     ensures answer { result ≡ checked image.now reach begin length }
@@ -120,7 +120,7 @@ fn length_at(image: &Image<'_>, reach: u32, entry: Arm64Entry) -> Result<u32, En
     checked(image, reach, entry.begin, length)
 }
 
-/// The address that functions reach up to after an entry: where this one ends, if it isn't refused.
+/// The end of all functions up to this entry. An entry that is refused doesn't change it.
 pub fn reach_behind(image: &Image<'_>, reach: u32, entry: Arm64Entry) -> u32
     ensures answer { result ≡ reach_behind image.now reach entry }
 {
@@ -145,7 +145,7 @@ fn epilogue_rules(info: &UnwindInfo, epilogue: Epilogue, offset: usize) -> Rules
     rules_behind(run, codes_from(epilogue.index, &info.codes))
 }
 
-// Whether the first of the epilogues that are left has begun at an offset.
+// Whether an offset is at or after the start of the first remaining epilogue.
 fn is_begun(left: &[Epilogue], offset: usize) -> bool
     ensures { result ≡ is_begun left.now offset }
 {
@@ -155,7 +155,7 @@ fn is_begun(left: &[Epilogue], offset: usize) -> bool
     }
 }
 
-// The rules at an offset after the prologue, by the epilogues that are left.
+// The rules at an offset after the prologue. `left` are the epilogues that end after it.
 fn rules_by(info: &UnwindInfo, left: &[Epilogue], offset: usize) -> Rules
     ensures { result ≡ rules_by info.now left.now offset }
 {
@@ -165,7 +165,7 @@ fn rules_by(info: &UnwindInfo, left: &[Epilogue], offset: usize) -> Rules
     }
 }
 
-/// The rules at an offset, by the epilogues that don't end before it.
+/// The rules at an offset. `left` are the epilogues that end after it.
 pub(crate) fn rules_among(info: &UnwindInfo, left: &[Epilogue], offset: usize) -> Rules
     ensures { result ≡ rules_among info.now left.now offset }
 {
@@ -175,7 +175,7 @@ pub(crate) fn rules_among(info: &UnwindInfo, left: &[Epilogue], offset: usize) -
     rules_by(info, left, offset)
 }
 
-/// Whether the rules at an offset are those of the function's body, by the epilogues that don't end before it.
+/// Whether the rules at an offset are those of the function's body. `left` are the epilogues that end after it.
 pub(crate) fn is_plain(info: &UnwindInfo, left: &[Epilogue], offset: usize) -> bool
     ensures { result ≡ is_plain info.now left.now offset }
 {

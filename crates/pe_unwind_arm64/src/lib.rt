@@ -1,9 +1,9 @@
-//! What the unwind tables of an ARM64 program say: how the caller of a function is found, at each of its addresses.
+//! Reads the unwind tables of an ARM64 program: how a function's caller is found from each of its addresses.
 //!
-//! [`function_lines`] reads the function of an entry of the exception directory, whose unwind info is a record of its own
-//! or packed into the entry, and [`push_entry`] writes its lines as STACK CFI records of a Breakpad symbol file. What a
-//! function's rules are at an offset is a definition, `rule_at` in specs/Functions.antt, and the lines and records are
-//! proved to show it at each offset, whatever the bytes are.
+//! [`function_lines`] reads the function of an entry of the exception directory. Its unwind info is a separate record
+//! or packed into the entry. [`push_entry`] writes its lines as STACK CFI records of a Breakpad symbol file. The rules
+//! at an offset of a function are defined by `rule_at` in specs/Functions.antt. Lines and records are proved to give
+//! these rules at each offset, for all bytes.
 #![tactic(auto)]
 
 mod canonical;

@@ -1,4 +1,4 @@
-//! Packed unwind data: the numbers that say which canonical prologue and epilogue a function has.
+//! Decodes packed unwind data, which describes a canonical prologue and epilogue by a few numbers.
 
 ghost use Rattle.std.specs.Prelude.{◌≡◌, ◌<◌, ◌^◌, IfOk};
 ghost use Rattle.pe_unwind_arm64.specs.UnwindErrors.{Gives};
@@ -13,7 +13,7 @@ use crate::unwind_errors::{EntryError, UnwindError};
 use crate::unwind_info::{UnwindInfo, single};
 use std::alloc::{AllocError, Global};
 
-/// What was done with x30, the return address.
+/// What the prologue did with x30, the return address.
 #[derive(Debug, Clone, Copy, PartialEq, Eq)]
 pub(crate) enum Link {
     /// Nothing.
@@ -31,9 +31,9 @@ pub(crate) enum Link {
 pub(crate) struct Packed {
     /// Whether there are a prologue and an epilogue.
     has_ends: bool,
-    /// How many registers from d8 on were stored, less one. None were if it is 0.
+    /// The number of stored registers from d8 on, less one. 0 means that none were stored.
     pub(crate) floats: u8,
-    /// How many registers from x19 on were stored.
+    /// The number of stored registers from x19 on.
     pub(crate) registers: u8,
     /// Whether the parameters x0 to x7 were stored.
     pub(crate) is_homed: bool,
@@ -50,7 +50,7 @@ pub(crate) fn packed_length(number: u32) -> u32
     number / 4 % 2048
 }
 
-// What two bits say that was done with x30.
+// What the prologue did with x30, by two bits.
 fn link_of(number: u32) -> Link
     ensures { result ≡ link_of number }
 {
@@ -62,7 +62,7 @@ fn link_of(number: u32) -> Link
     }
 }
 
-/// The numbers that are packed.
+/// Decodes packed unwind data.
 pub(crate) fn packed_of(number: u32) -> Packed
     ensures { result ≡ packed_of number }
 {
@@ -97,7 +97,7 @@ pub(crate) fn is_signed(link: Link) -> bool
     matches!(link, Link::SignedChain)
 }
 
-// How many bytes the registers from x19 on take.
+// The size of the stored registers from x19 on, and of x30 if it is stored after them, in bytes.
 fn register_size(packed: Packed) -> u32
     ensures answer { result ≡ register_size packed }
     ensures small { result < 4096 }
@@ -110,7 +110,7 @@ fn register_size(packed: Packed) -> u32
     }
 }
 
-// How many bytes the registers from d8 on take.
+// The size of the stored registers from d8 on, in bytes.
 fn float_size(packed: Packed) -> u32
     ensures answer { result ≡ float_size packed }
     ensures small { result < 4096 }
@@ -121,7 +121,7 @@ fn float_size(packed: Packed) -> u32
     8 * u32::from(packed.floats) + 8
 }
 
-// How many bytes the parameters take.
+// The size of the stored parameters in bytes.
 fn home_size(packed: Packed) -> u32
     ensures answer { result ≡ home_size packed }
     ensures small { result < 4096 }
@@ -129,14 +129,14 @@ fn home_size(packed: Packed) -> u32
     if packed.is_homed { 64 } else { 0 }
 }
 
-/// How many bytes all that was stored takes, rounded up to 16.
+/// The size of everything that was stored, rounded up to 16 bytes.
 pub(crate) fn saved_size(packed: Packed) -> u32
     ensures { result ≡ saved_size packed }
 {
     (register_size(packed) + float_size(packed) + home_size(packed) + 15) / 16 * 16
 }
 
-/// How many bytes of the frame are left for the rest.
+/// The size of the rest of the frame in bytes.
 pub(crate) fn local_size(packed: Packed) -> u32
     ensures { result ≡ local_size packed }
 {
@@ -165,7 +165,7 @@ fn as_codes(alloc: Global, operations: &[Operation]) -> Result<Vec<UnwindCode>, 
     Ok(codes)
 }
 
-// Whether there is a canonical prologue that stores so many registers.
+// Whether there is a canonical prologue that stores this number of registers.
 fn is_canonical(packed: Packed) -> bool
     ensures { result ≡ is_canonical packed }
 {
@@ -191,7 +191,7 @@ fn ends_info(
     })
 }
 
-/// The unwind info that packed data says of a function of so many instructions.
+/// The unwind info that packed data describes for a function of `count` instructions.
 pub(crate) fn packed_info(
     alloc: Global,
     packed: Packed,

@@ -1,4 +1,4 @@
-//! All unwind records of a program: those of its exception directory's entries.
+//! Writes all unwind records of a program: those of its exception directory's entries.
 
 ghost use Rattle.std.specs.Prelude.{◌≡◌, IfOk, OnOk};
 ghost use Rattle.pe_unwind_arm64.specs.Functions.{function_at};
@@ -14,9 +14,9 @@ use std::marker::Model;
 /// The unwind records of a program, as text.
 #[derive(Drop)]
 pub struct UnwindRecords {
-    /// A line for each record.
+    /// One line for each record.
     pub text: String,
-    /// The entries of the exception directory that have no records, in their order.
+    /// The entries of the exception directory that get no records, in file order.
     pub left_out: Vec<OmittedEntry>,
 }
 
@@ -29,7 +29,7 @@ impl Model for UnwindRecords {
     ghost view = { λ records. record { text = string_bytes records.text; left_out = records.left_out.items } };
 }
 
-/// An entry of the exception directory that has no records.
+/// An entry of the exception directory that gets no records.
 #[derive(Debug, Clone, Copy, PartialEq, Eq)]
 pub struct OmittedEntry {
     /// The address of its function's first byte, relative to the image base.
@@ -37,7 +37,7 @@ pub struct OmittedEntry {
     pub why: EntryError,
 }
 
-/// The unwind records of a program for ARM64: those of each entry of its exception directory, in this order.
+/// The unwind records of a program for ARM64: those of each entry of its exception directory, in file order.
 pub fn unwind_records(alloc: Global, image: &Image<'_>) -> Result<UnwindRecords, AllocError>
     ensures answer { IfOk result (AreUnwindRecords image.now) }
 {
@@ -67,7 +67,7 @@ fn add_entries(
     Ok(())
 }
 
-// Appends the records of an entry, or else leaves it out.
+// Appends the records of an entry, or lists it as one without records.
 fn add_entry(
     alloc: Global,
     records: &mut UnwindRecords,

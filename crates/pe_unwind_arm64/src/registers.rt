@@ -1,9 +1,9 @@
-//! The registers of ARM64 that a function keeps for its caller, and those that places in its frame are counted from.
+//! The registers of ARM64 that a function saves for its caller, and the base registers of places in its frame.
 
 ghost use Rattle.std.specs.Prelude.{◌≡◌, ◌<◌};
 ghost use Rattle.pe_unwind_arm64.specs.Registers.{base_number, index, register, second};
 
-/// A register that a function keeps for its caller.
+/// A register that a function saves for its caller.
 #[derive(Debug, Clone, Copy, PartialEq, Eq)]
 pub enum Register {
     X19,
@@ -22,7 +22,7 @@ pub enum Register {
     X30,
 }
 
-/// A register that places are counted from.
+/// A register to which places in the frame are relative.
 #[derive(Debug, Clone, Copy, PartialEq, Eq)]
 pub enum BaseRegister {
     /// The stack pointer.
@@ -31,7 +31,7 @@ pub enum BaseRegister {
     Fp,
 }
 
-/// The register that is so many after x19. Numbers above 10 are all taken for x30.
+/// The register that is `number` registers after x19. All numbers above 10 mean x30.
 pub(crate) fn numbered(number: usize) -> Register
     ensures { result ≡ register number }
 {
@@ -51,7 +51,7 @@ pub(crate) fn numbered(number: usize) -> Register
     }
 }
 
-/// How many registers after x19 a register is, from 0 to 11.
+/// How many registers a register is after x19, from 0 to 11.
 pub(crate) fn index(register: Register) -> usize
     ensures answer { result ≡ index register }
     ensures bound { result < 12 }
@@ -72,14 +72,14 @@ pub(crate) fn index(register: Register) -> usize
     }
 }
 
-/// The register after a register, which is stored above it where a pair is stored.
+/// The second register of a pair. It is stored above the first one.
 pub(crate) fn second(first: Register) -> Register
     ensures { result ≡ second first }
 {
     numbered(index(first) + 1)
 }
 
-/// A number of its own for each register that places are counted from.
+/// A different number for each base register.
 pub(crate) fn base_number(base: BaseRegister) -> u8
     ensures { result ≡ base_number base }
 {

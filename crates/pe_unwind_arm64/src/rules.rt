@@ -1,4 +1,4 @@
-//! What unwind codes say at a place in their list: where the caller's stack pointer, return address and registers are.
+//! Computes rules from unwind codes: where the caller's stack pointer, return address and registers are.
 
 ghost use Rattle.std.specs.Prelude.{◌≡◌, ◌↔◌, IsTrue, true};
 ghost use Rattle.pe_unwind_arm64.specs.Rules.{above, at_first, below_frame, codes_undone, is_end, less, popped};
@@ -7,11 +7,11 @@ ghost use Rattle.pe_unwind_arm64.specs.Rules.{rules_behind, rules_of, stack_top,
 use crate::registers::{BaseRegister, Register, index, second};
 use crate::unwind_codes::{Operation, UnwindCode};
 
-/// A place in memory: so many bytes above where a register points.
+/// A place in memory: this many bytes above where a register points.
 #[derive(Debug, Clone, Copy, PartialEq, Eq)]
 pub struct RegisterOffset {
     pub base: BaseRegister,
-    /// In bytes. A negative offset stands as its two's complement.
+    /// The offset in bytes. A negative offset is a two's complement.
     pub offset: u64,
 }
 
@@ -20,13 +20,13 @@ pub struct RegisterOffset {
 pub struct Rules {
     /// The caller's stack pointer, which is the canonical frame address.
     pub cfa: RegisterOffset,
-    /// Where the return address is stored. `None` if it is in x30 still.
+    /// Where the return address is stored. `None` if it is still in x30.
     pub return_address: Option<RegisterOffset>,
-    /// Where each of the registers x19 to x30 is stored. `None` if the caller has the register's value still.
+    /// Where each of the registers x19 to x30 is stored. `None` if the register still has the caller's value.
     pub saved: [Option<RegisterOffset>; 12],
 }
 
-/// What has been undone of a function's prologue.
+/// The state while a function's prologue is undone.
 #[derive(Clone, Copy)]
 pub(crate) struct Unwound {
     /// Where the stack pointer points.
@@ -34,7 +34,7 @@ pub(crate) struct Unwound {
     pub(crate) saved: [Option<RegisterOffset>; 12],
 }
 
-// A place so many bytes above another.
+// The place `bytes` bytes above another one.
 fn above(place: RegisterOffset, bytes: u64) -> RegisterOffset
     ensures { result ≡ above place bytes }
 {
@@ -44,7 +44,7 @@ fn above(place: RegisterOffset, bytes: u64) -> RegisterOffset
     }
 }
 
-/// A number taken off an address.
+/// An address minus a number, modulo 2^64.
 pub(crate) fn less(address: u64, bytes: u64) -> u64
     ensures { result ≡ less address bytes }
 {
@@ -61,7 +61,7 @@ fn stack_top() -> RegisterOffset
     }
 }
 
-// The place so many bytes below where x29 points.
+// The place `bytes` bytes below where x29 points.
 fn below_frame(bytes: u32) -> RegisterOffset
     ensures { result ≡ below_frame bytes }
 {
@@ -71,7 +71,7 @@ fn below_frame(bytes: u32) -> RegisterOffset
     }
 }
 
-// Before anything is undone.
+// The state before anything is undone.
 fn at_first() -> Unwound
     ensures { result ≡ at_first }
 {
@@ -81,7 +81,7 @@ fn at_first() -> Unwound
     }
 }
 
-// With a register saved at a place.
+// The state with a register saved at a place.
 fn with_saved(register: Register, place: RegisterOffset, unwound: Unwound) -> Unwound
     ensures { result ≡ with_saved register place unwound }
 {
@@ -93,14 +93,14 @@ fn with_saved(register: Register, place: RegisterOffset, unwound: Unwound) -> Un
     }
 }
 
-// With two registers saved, the second one 8 bytes above the first.
+// The state with two registers saved, the second one 8 bytes above the first.
 fn with_pair(one: Register, other: Register, place: RegisterOffset, unwound: Unwound) -> Unwound
     ensures { result ≡ with_pair one other place unwound }
 {
     with_saved(other, above(place, 8), with_saved(one, place, unwound))
 }
 
-// With the stack pointer at a place.
+// The state with the stack pointer at a place.
 fn with_stack(place: RegisterOffset, unwound: Unwound) -> Unwound
     ensures { result ≡ record unwound { stack = place } }
 {
@@ -111,7 +111,7 @@ fn with_stack(place: RegisterOffset, unwound: Unwound) -> Unwound
     }
 }
 
-// With the stack pointer so many bytes higher.
+// The state with the stack pointer `bytes` bytes higher.
 fn popped(bytes: u32, unwound: Unwound) -> Unwound
     ensures { result ≡ popped bytes unwound }
 {
@@ -119,7 +119,7 @@ fn popped(bytes: u32, unwound: Unwound) -> Unwound
     with_stack(stack, unwound)
 }
 
-// What one operation undoes.
+// The state after one operation is undone.
 fn undone(operation: Operation, unwound: Unwound) -> Unwound
     ensures { result ≡ undone operation unwound }
 {
@@ -154,7 +154,7 @@ pub(crate) fn is_end(operation: Operation) -> bool
     matches!(operation, Operation::End)
 }
 
-// What some codes undo, one after the other, up to the end code.
+// The state after some codes are undone in turn, up to the end code.
 fn codes_undone(codes: &[UnwindCode], unwound: Unwound) -> Unwound
     ensures { result ≡ codes_undone codes.now unwound }
 {
@@ -168,7 +168,7 @@ fn codes_undone(codes: &[UnwindCode], unwound: Unwound) -> Unwound
     after
 }
 
-// The rules where so much is undone.
+// The rules when this state is reached at the end.
 fn rules_of(unwound: Unwound) -> Rules
     ensures { result ≡ rules_of unwound }
 {
@@ -181,7 +181,7 @@ fn rules_of(unwound: Unwound) -> Rules
     }
 }
 
-/// The rules where so many codes at the front of some aren't to be undone, and the others are.
+/// The rules if all codes except the first `count` are undone.
 pub(crate) fn rules_behind(count: usize, codes: &[UnwindCode]) -> Rules
     ensures { result ≡ rules_behind count codes.now }
 {

@@ -1,4 +1,4 @@
-//! Unwind codes: what the instructions of a function's prologue did, from the last one to the first.
+//! Reads unwind codes: what the instructions of a function's prologue did, from the last one to the first.
 
 ghost use Rattle.std.specs.Prelude.{◌≡◌, ◌≤◌, ◌<◌, drop, length, slice_index, IfOk};
 ghost use Rattle.pe_unwind_arm64.specs.UnwindCodes.{IsNear, code_size, codes_from, codes_in, float_operation, if_known, is_next};
@@ -32,37 +32,38 @@ const CLEAR_UNWOUND_TO_CALL: u8 = 0xec;
 
 const PAC_SIGN_LR: u8 = 0xfc;
 
-/// How many pairs one is after another at most.
+/// The maximum number of save_next codes that are followed.
 const MOST_PAIRS_BEHIND: usize = 4;
 
 /// What an instruction of the prologue did. Sizes and offsets are in bytes.
 #[derive(Debug, Clone, Copy, PartialEq, Eq)]
 pub enum Operation {
-    /// It moved the stack pointer down by so much.
+    /// Moved the stack pointer down by this much.
     Allocate(u32),
-    /// It stored a register, so far above the stack pointer.
+    /// Stored a register this far above the stack pointer.
     Save(Register, u32),
-    /// It stored a register and the one after it, so far above the stack pointer.
+    /// Stored a register and the one after it this far above the stack pointer.
     SavePair(Register, u32),
-    /// It stored a register and x30, so far above the stack pointer.
+    /// Stored a register and x30 this far above the stack pointer.
     SaveWithLink(Register, u32),
-    /// It moved the stack pointer down by so much, and stored a register there.
+    /// Moved the stack pointer down by this much, and stored a register there.
     Push(Register, u32),
-    /// It moved the stack pointer down by so much, and stored a register and the one after it there.
+    /// Moved the stack pointer down by this much, and stored a register and the one after it there.
     PushPair(Register, u32),
-    /// It stored a pair of registers of floating point numbers.
+    /// Stored a pair of floating-point registers.
     SaveFloats,
-    /// It moved the stack pointer down by so much, and stored a pair of registers of floating point numbers there.
+    /// Moved the stack pointer down by this much, and stored a pair of floating-point registers there.
     PushFloats(u32),
-    /// It set x29 to the stack pointer.
+    /// Set x29 to the stack pointer.
     SetFrame,
-    /// It set x29 to so much above the stack pointer.
+    /// Set x29 to this much above the stack pointer.
     AddFrame(u32),
-    /// Nothing that is shown.
+    /// An operation that no rule shows.
     Unseen,
-    /// No instruction: here all codes end.
+    /// The end of all codes, which isn't an instruction.
     End,
-    /// No instruction: here the function's own codes end, and those of the function follow that it is a part of.
+    /// The end of the function's own codes, which isn't an instruction. The codes of the function to which it belongs
+    /// follow.
     EndChained,
     /// The code can't be undone.
     Unusable(EntryError),
@@ -71,12 +72,12 @@ pub enum Operation {
 /// An unwind code.
 #[derive(Debug, Clone, Copy, PartialEq, Eq)]
 pub struct UnwindCode {
-    /// How many bytes of all codes are before it.
+    /// The offset of the code in the bytes of all codes.
     pub index: usize,
     pub operation: Operation,
 }
 
-/// All unwind codes in these bytes.
+/// Reads all unwind codes in these bytes.
 #[tactic(auto, unfolding(crate::specs::UnwindCodes::codes_in))]
 pub(crate) fn codes_in(alloc: Global, bytes: &[u8]) -> Result<Vec<UnwindCode>, AllocError>
     ensures answer { IfOk result (λ codes. codes.items ≡ codes_in bytes.now) }
@@ -109,7 +110,7 @@ pub(crate) fn codes_from(index: usize, codes: &[UnwindCode]) -> &[UnwindCode]
     &[]
 }
 
-/// The bytes from an offset on, none where there are not so many.
+/// The bytes from an offset on; none if there are fewer bytes.
 pub(crate) fn bytes_behind(bytes: &[u8], at: usize) -> &[u8]
     ensures answer { result.now ≡ drop at bytes.now }
     ensures shorter { length result.now ≤ length bytes.now }
@@ -121,14 +122,14 @@ pub(crate) fn bytes_behind(bytes: &[u8], at: usize) -> &[u8]
     rest
 }
 
-// The byte at a position, 0 where there is none.
+// The byte at a position; 0 after the last one.
 fn byte_at(bytes: &[u8], position: usize) -> u8
     ensures { result ≡ slice_index bytes.now position }
 {
     bytes.get(position).copied().unwrap_or(0)
 }
 
-// How many bytes a code takes, by its first byte.
+// The size of a code in bytes, by its first byte.
 fn code_size(byte: u8) -> usize
     ensures { result ≡ code_size byte }
 {
@@ -146,7 +147,7 @@ fn code_size(byte: u8) -> usize
     }
 }
 
-// What a code of one byte below C0 says that was done.
+// The operation of a code of one byte, which is below C0.
 fn short_operation(byte: u8) -> Operation
     ensures near { IsNear result }
     ensures answer { result ≡ short_operation byte }
@@ -164,7 +165,7 @@ fn short_operation(byte: u8) -> Operation
     Operation::PushPair(Register::X29, (number - 0x80) * 8 + 8)
 }
 
-// The operation on a register, if there is such a register: the last of them is so many after x19.
+// The operation, if its last register exists. That is the `last`th after x19.
 fn if_known(last: u32, operation: Operation) -> Operation
     requires { IsNear operation }
     ensures near { IsNear result }
@@ -177,7 +178,7 @@ fn if_known(last: u32, operation: Operation) -> Operation
     }
 }
 
-// What a code says that was done with registers of general use, by its first byte and by the number that it is.
+// The operation of a code that stored general registers, by its first byte and the number in both bytes.
 fn save_operation(byte: u8, number: u32) -> Operation
     ensures near { IsNear result }
     ensures answer { result ≡ save_operation byte number }
@@ -206,7 +207,7 @@ fn save_operation(byte: u8, number: u32) -> Operation
     )
 }
 
-// What a code says that was done with registers of floating point numbers.
+// The operation of a code that stored floating-point registers.
 fn float_operation(byte: u8, number: u32) -> Operation
     ensures near { IsNear result }
     ensures answer { result ≡ float_operation byte number }
@@ -223,7 +224,7 @@ fn float_operation(byte: u8, number: u32) -> Operation
     Operation::Allocate(number % 32 * 8 + 8)
 }
 
-// What a code of two bytes says that was done, by the first byte and the number that both are.
+// The operation of a code of two bytes, by its first byte and the number in both bytes.
 fn long_operation(byte: u8, number: u32) -> Operation
     ensures near { IsNear result }
     ensures answer { result ≡ long_operation byte number }
@@ -240,14 +241,14 @@ fn long_operation(byte: u8, number: u32) -> Operation
     float_operation(byte, number)
 }
 
-// The number in the two bytes that a code begins with, the first one the higher.
+// The number in the first two bytes of a code, in big-endian order.
 fn number_of_two(bytes: &[u8]) -> u32
     ensures { result ≡ number_of_two bytes.now }
 {
     u32::from(byte_at(bytes, 0)) * 256 + u32::from(byte_at(bytes, 1))
 }
 
-// The number in the three bytes after the first one of a code, the first of them the highest.
+// The number in the three bytes after the first one of a code, in big-endian order.
 fn large_number(bytes: &[u8]) -> u32
     ensures answer { result ≡ large_number bytes.now }
     ensures large { result < 16777216 }
@@ -257,7 +258,7 @@ fn large_number(bytes: &[u8]) -> u32
         + u32::from(byte_at(bytes, 3))
 }
 
-// What a code says that was done whose first byte is E0 or above.
+// The operation of a code whose first byte is E0 or above.
 fn other_operation(byte: u8, bytes: &[u8]) -> Operation
     ensures near { IsNear result }
     ensures answer { result ≡ other_operation byte bytes.now }
@@ -277,7 +278,7 @@ fn other_operation(byte: u8, bytes: &[u8]) -> Operation
     }
 }
 
-// What the code says that was done that bytes begin with, if they have all of it.
+// The operation of the code at the start of these bytes, if they have all of it; save_next isn't handled here.
 fn own_operation(bytes: &[u8]) -> Operation
     ensures near { IsNear result }
     ensures answer { result ≡ own_operation bytes.now }
@@ -295,7 +296,7 @@ fn own_operation(bytes: &[u8]) -> Operation
     other_operation(byte, bytes)
 }
 
-// The pair that is so many pairs after one.
+// The operation that stored the pair which is `count` pairs after another one.
 fn pair_behind(count: usize, first: Register, offset: u32) -> Operation
     requires count { count ≤ 5 }
     requires offset { offset < 1024 }
@@ -309,7 +310,7 @@ fn pair_behind(count: usize, first: Register, offset: u32) -> Operation
     }
 }
 
-// What the first of so many save_next codes says that was done, by the operation of the code after them.
+// The operation of the first of `count` save_next codes, by the operation of the code after them.
 fn operation_behind(count: usize, operation: Operation) -> Operation
     requires count { count ≤ 5 }
     requires near { IsNear operation }
@@ -323,14 +324,14 @@ fn operation_behind(count: usize, operation: Operation) -> Operation
     }
 }
 
-// Whether bytes begin with a save_next code.
+// Whether the first code is save_next.
 fn is_next(bytes: &[u8]) -> bool
     ensures { result ≡ is_next bytes.now }
 {
     byte_at(bytes, 0) == SAVE_NEXT
 }
 
-// What a save_next code says that was done, by the bytes after it.
+// The operation of a save_next code, by the bytes after it.
 fn next_operation(bytes: &[u8]) -> Operation
     ensures { result ≡ next_operation bytes.now }
 {
@@ -346,7 +347,7 @@ fn next_operation(bytes: &[u8]) -> Operation
     operation_behind(count, own_operation(rest))
 }
 
-// What the code says that was done that bytes begin with.
+// The operation of the code at the start of these bytes.
 fn operation_of(bytes: &[u8]) -> Operation
     ensures { result ≡ operation_of bytes.now }
 {

@@ -1,15 +1,15 @@
-//! Why the unwind info of a function can't be read.
+//! Errors of reading a function's unwind info.
 
 use std::alloc::{AllocError, AllocFailed};
 use thiserror::Error;
 
-/// Why an entry of the exception directory is left out.
+/// Why an entry of the exception directory gets no records.
 #[derive(Debug, Clone, Copy, PartialEq, Eq, Error)]
 pub enum EntryError {
     /// The function has no code.
     #[error("the function is empty")]
     Empty,
-    /// The function reaches past the end of the image.
+    /// The function extends past the end of the image.
     #[error("the function is outside of the image")]
     OutsideOfImage,
     /// The function begins before the end of one that is listed earlier.
@@ -27,35 +27,35 @@ pub enum EntryError {
     /// The unwind info has a code without a meaning.
     #[error("the unwind info has an unknown code")]
     UnknownCode,
-    /// A code is of a stack that is no function's frame: trap_frame, machine_frame, context, ec_context or
+    /// A code belongs to a stack that isn't a function's frame: trap_frame, machine_frame, context, ec_context or
     /// clear_unwound_to_call.
     #[error("the unwind info has a code of a custom stack")]
     CustomStack,
-    /// A code is of a frame with scalable vectors: alloc_z.
+    /// A code belongs to a frame with scalable vectors: alloc_z.
     #[error("the unwind info has a code of scalable vectors")]
     ScalableVectors,
-    /// A code is one that names any register: save_any_reg.
+    /// A code can name any register: save_any_reg.
     #[error("the unwind info has a code that saves any register")]
     AnyRegister,
     /// A code saves a register after x30.
     #[error("the unwind info has a code of an unknown register")]
     UnknownRegister,
-    /// A save_next code is not followed by the code of a pair, or there is no such next pair.
+    /// A save_next code isn't followed by the code of a pair, or there is no next pair.
     #[error("the unwind info has a save_next code without a pair")]
     NextOfNoPair,
-    /// The unwind codes reach past the end of the unwind info, or no end code is among them.
+    /// The unwind codes extend past the end of the unwind info, or have no end code.
     #[error("the unwind codes reach past the end of the unwind info")]
     CodesCut,
-    /// x29 was set before it was stored, so what was stored isn't the caller's.
+    /// x29 was set before it was stored, so the stored value isn't the caller's.
     #[error("the unwind info stores x29 behind the instruction that sets it")]
     FrameLost,
     /// An epilogue begins before the end of one that is listed earlier.
     #[error("an epilogue begins before the end of the one before it")]
     EpiloguesOverlap,
-    /// An epilogue reaches past the function's end.
+    /// An epilogue extends past the function's end.
     #[error("an epilogue is outside of its function")]
     EpilogueOutsideOfFunction,
-    /// Packed unwind data saves registers in a way that has no canonical prologue.
+    /// Packed unwind data saves a set of registers for which there is no canonical prologue.
     #[error("the packed unwind data has an unknown set of registers")]
     PackedRegisters,
     /// The frame of packed unwind data is smaller than the registers that are saved in it.
@@ -66,9 +66,9 @@ pub enum EntryError {
 /// Why reading an entry of the exception directory ended early.
 #[derive(Debug, Clone, Copy, PartialEq, Eq)]
 pub enum UnwindError {
-    /// The entry is left out; others are not affected.
+    /// The entry gets no records; other entries aren't affected.
     Refused(EntryError),
-    /// There was no memory.
+    /// Memory ran out.
     OutOfMemory,
 }
 

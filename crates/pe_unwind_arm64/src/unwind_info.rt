@@ -1,4 +1,4 @@
-//! The unwind info of a function, as a record of its own (.xdata) says it.
+//! Reads the unwind info of a function from its record (.xdata).
 
 ghost use Rattle.std.specs.Prelude.{◌≡◌, ◌≤◌, ◌<◌, ◌+◌, ◌^◌, ◌∷◌, [], Ok, IfOk};
 ghost use Rattle.pe_unwind_arm64.specs.UnwindErrors.{Gives};
@@ -15,12 +15,12 @@ use std::marker::Model;
 /// The size of a word of the header, and of an epilogue scope, in bytes.
 const WORD: usize = 4;
 
-/// What the unwind info of a function says beside its length.
+/// The unwind info of a function, without its length.
 #[derive(Drop)]
 pub struct UnwindInfo {
-    /// The codes, as they are listed: that of the last instruction first.
+    /// The codes in file order: that of the last instruction comes first.
     pub codes: Vec<UnwindCode>,
-    /// How many instructions the prologue has.
+    /// The number of instructions of the prologue.
     pub prologue: usize,
     /// The epilogues, in the order of their starts.
     pub epilogues: Vec<Epilogue>,
@@ -38,22 +38,22 @@ impl Model for UnwindInfo {
     } };
 }
 
-/// What the header of an unwind info says.
+/// The header of an unwind info.
 #[derive(Debug, Clone, Copy)]
 pub(crate) struct Header {
     /// The length of the function in instructions.
     pub(crate) length: u32,
     /// Whether there is one epilogue, at the function's end.
     is_single: bool,
-    /// How many epilogues there are, or the index of that one's codes.
+    /// The number of epilogues; or, if there is one at the function's end, the index of its codes.
     epilogues: u32,
-    /// How many words have codes.
+    /// The number of words that contain codes.
     words: u32,
     /// The size of the header in bytes.
     size: usize,
 }
 
-/// What the unwind info says that begins with these bytes.
+/// Reads the unwind info at the start of these bytes.
 pub(crate) fn info_in(alloc: Global, bytes: &[u8]) -> Result<UnwindInfo, UnwindError>
     ensures answer { Gives (λ info. info) result (info_in bytes.now) }
 {
@@ -69,7 +69,7 @@ pub(crate) fn info_in(alloc: Global, bytes: &[u8]) -> Result<UnwindInfo, UnwindE
     info_by(alloc, header, scopes, codes_in(alloc, listed)?)
 }
 
-// What the first word of a header says.
+// Decodes the first word of a header.
 fn header_of(word: u32) -> Header
     ensures answer { result ≡ header_of word }
     ensures small { result.length < 2 ^ 18 }
@@ -86,7 +86,7 @@ fn header_of(word: u32) -> Header
     }
 }
 
-// The same, where a second word says the last two numbers.
+// Decodes a header whose second word has the last two numbers.
 fn header_with(word: u32, more: u32) -> Header
     ensures answer { result ≡ header_with word more }
     ensures small { result.length < 2 ^ 18 }
@@ -104,7 +104,7 @@ fn header_with(word: u32, more: u32) -> Header
     }
 }
 
-// The header of two words.
+// Reads a header of two words.
 fn extended_header(word: u32, bytes: &[u8]) -> Result<Header, EntryError>
     ensures answer { result ≡ extended_header word bytes.now }
     ensures small { IfOk result (λ header. header.length < 2 ^ 18) }
@@ -118,7 +118,7 @@ fn extended_header(word: u32, bytes: &[u8]) -> Result<Header, EntryError>
     }
 }
 
-/// The header that bytes begin with.
+/// Reads the header at the start of these bytes.
 pub(crate) fn header_in(bytes: &[u8]) -> Result<Header, EntryError>
     ensures answer { result ≡ header_in bytes.now }
     ensures small { IfOk result (λ header. header.length < 2 ^ 18) }
@@ -138,7 +138,7 @@ pub(crate) fn header_in(bytes: &[u8]) -> Result<Header, EntryError>
     Ok(header_of(word))
 }
 
-// How many bytes the epilogue scopes take.
+// The size of the epilogue scopes in bytes.
 fn scope_bytes(header: Header) -> usize
     requires few { header.epilogues < 2 ^ 16 }
     ensures answer { result ≡ scope_bytes header }
@@ -150,7 +150,7 @@ fn scope_bytes(header: Header) -> usize
     WORD * header.epilogues as usize
 }
 
-// What an unwind info says, by its header, its scopes and its codes.
+// The unwind info, by its header, its epilogue scopes and its codes.
 fn info_by(
     alloc: Global,
     header: Header,
@@ -184,7 +184,7 @@ fn epilogues_by(
     scopes_in(alloc, header.epilogues, header.length, codes, scopes)
 }
 
-/// One epilogue alone.
+/// A list of one epilogue.
 pub(crate) fn single(alloc: Global, one: Epilogue) -> Result<Vec<Epilogue>, UnwindError>
     ensures answer { Gives (λ epilogues. epilogues.items) result (Ok (one ∷ [])) }
 {
@@ -193,7 +193,7 @@ pub(crate) fn single(alloc: Global, one: Epilogue) -> Result<Vec<Epilogue>, Unwi
     Ok(epilogues)
 }
 
-// The epilogue that an epilogue scope says.
+// Decodes an epilogue scope.
 fn scope_of(
     reach: usize,
     length: u32,
@@ -211,14 +211,14 @@ fn scope_of(
     )
 }
 
-// The number that a list of epilogue scopes begins with.
+// The first number of a list of epilogue scopes.
 fn first_scope(bytes: &[u8]) -> u32
     ensures answer { result ≡ first_scope bytes.now }
 {
     u32_at(bytes, 0).unwrap_or(0)
 }
 
-// So many epilogues, by their scopes.
+// The first `count` epilogues, by their scopes.
 #[tactic(auto, unfolding(crate::specs::UnwindInfo::scopes_in))]
 fn scopes_in(
     alloc: Global,
