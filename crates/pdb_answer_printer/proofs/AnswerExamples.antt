@@ -65,7 +65,8 @@ unfolding digits
 lines_of_gnu = refl
 
 -- with the lines of the source file of the first
-pub verbose_lines : answer_text (options_of Llvm Verbose false false) asked two_frames (with_source [] (codes "10 >: {\n") ∷ [])
+pub verbose_lines :
+    answer_text (options_of Llvm Verbose false false) asked two_frames (with_source [] (codes "10 >: {\n") ∷ [])
     ≡ codes "0x1136\nPoint::length\n  Filename: C:\\shapes.h\n  Line: 10\n  Column: 0\n10 >: {\n"
     ++ codes "Picture::draw\n  Filename: C:\\main.cpp\n  Line: 29\n  Column: 0\n\n"
 unfolding digits
@@ -74,7 +75,8 @@ verbose_lines = refl
 -- with the URL of the source file of the first, on its line and on a line of its own
 pub lines_with_url :
     answer_text (options_of Llvm Brief true false) asked two_frames (with_source (codes "https://a/b") [] ∷ [])
-    ≡ codes "0x1136: Point::length at C:\\shapes.h:10:0 https://a/b\n (inlined by) Picture::draw at C:\\main.cpp:29:0\n\n"
+    ≡ codes "0x1136: Point::length at C:\\shapes.h:10:0 https://a/b\n"
+    ++ codes " (inlined by) Picture::draw at C:\\main.cpp:29:0\n\n"
 unfolding digits
 lines_with_url = refl
 

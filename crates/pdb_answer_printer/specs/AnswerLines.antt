@@ -66,8 +66,8 @@ frame_lines options start frame url =
 abbrev pub outer_start : PrinterOptions → List ℕ
 outer_start options = if options.pretty then codes " (inlined by) " else []
 
--- the lines of frames from inside to outside, the first after this text; each frame has the URL of its source file in its
--- location, and lines of that file after it
+-- the lines of frames from inside to outside, the first after this text; each frame has the URL of its source file in
+-- its location, and lines of that file after it
 abbrev pub frames_lines : PrinterOptions → List ℕ → List FrameInfo → List FrameSource → List ℕ
 frames_lines options start [] sources = []
 frames_lines options start (frame ∷ frames) sources =

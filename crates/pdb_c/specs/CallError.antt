@@ -97,8 +97,8 @@ refusal_of_file file.NoSectionHeaders = NoSectionHeaders
 refusal_of_file file.Rearranged = Rearranged
 refusal_of_file (file.Broken stream why) = BrokenStream
 
--- what is answered where no session can be opened over bytes. Each range is in memory, so one that can't be read is after
--- the end
+-- what is answered where no session can be opened over bytes. Each range is in memory, so one that can't be read is
+-- after the end
 abbrev pub refusal_of_session : SessionError → CallError
 refusal_of_session (session.File (open.Container fault)) = refusal_of_container fault
 refusal_of_session (session.File open.Unreadable) = CutShort

@@ -178,8 +178,8 @@ impl From<pdb_container::PdbFileError> for CallError {
 impl From<SessionError> for CallError {
     ghost from_gives = { λ error refusal. refusal ≡ refusal_of_session error };
 
-    /// What a call answers where no part of a file can be opened. Each range of the file is in memory, so one that can't
-    /// be read is after the file's end.
+    /// What a call answers where no part of a file can be opened. Each range of the file is in memory, so one that
+    /// can't be read is after the file's end.
     fn from(error: SessionError) -> CallError {
         match error {
             SessionError::File(OpenError::Container(fault)) => CallError::from(fault),

@@ -8,8 +8,8 @@ use crate::part_openings::open_part;
 use std::alloc::Global;
 
 /// Reads into a handle what answers at some addresses need of a PDB file, and returns how many modules the flags are
-/// for; `modules` is that number too. Writes a flag for each module to `flags`: 1 if the module was read, and else 0. If
-/// there are more modules than room for flags, none is written, and the answer is the number of that refusal; the
+/// for; `modules` is that number too. Writes a flag for each module to `flags`: 1 if the module was read, and else 0.
+/// If there are more modules than room for flags, none is written, and the answer is the number of that refusal; the
 /// handle then holds the part all the same. After any other refusal it holds what it held.
 #[unsafe(no_mangle)]
 pub extern "C" fn limberlime_open_part_unchecked(

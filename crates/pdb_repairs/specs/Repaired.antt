@@ -104,8 +104,8 @@ abbrev pub repairs_of_symbols : Result SymbolTable StreamError → List Repair
 repairs_of_symbols (Ok table) = told GlobalSymbols table.symbols.fault
 repairs_of_symbols (Err fault) = NoGlobalSymbols fault ∷ []
 
--- the types or the ids of a program; if they can't be read, an empty list that ends with the fault, so a name that needs
--- one of them is unknown
+-- the types or the ids of a program; if they can't be read, an empty list that ends with the fault, so a name that
+-- needs one of them is unknown
 abbrev pub repaired_items : {I D : Type 0} → Result (ItemInformation I D) StreamError
     → Result (ItemInformation I D) StreamError
 repaired_items (Ok information) = Ok information

@@ -151,8 +151,8 @@ fn repair_global_symbols(
     }
 }
 
-// Replaces types or ids that can't be read by an empty list that ends with the fault, and returns the fault. A name that
-// needs one of them is then unknown, as if the list ended before it.
+// Replaces types or ids that can't be read by an empty list that ends with the fault, and returns the fault. A name
+// that needs one of them is then unknown, as if the list ended before it.
 fn take_unread<I: Drop, D: Drop>(
     alloc: Global,
     read: &mut Result<ItemInformation<I, D>, StreamError>,

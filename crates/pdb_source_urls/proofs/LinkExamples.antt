@@ -59,8 +59,8 @@ no_utf8 : with_text (codes "{\"documents\":{\"b\":\"u" ++ (0xff ∷ codes "\"}}"
 unfolding texts
 no_utf8 = refl
 
--- the longest path counts, in letters of any case; in the rest of the name a space, `é` (two bytes) and `#` are escaped,
--- and a backslash is written as a slash
+-- the longest path counts, in letters of any case; in the rest of the name a space, `é` (two bytes) and `#` are
+-- escaped, and a backslash is written as a slash
 abbrev links : List Link
 links = below (codes "C:\\") (codes "http://u/all/*") ∷ (below (codes "C:\\Src\\") (codes "http://u/*?v=1")
     ∷ (below (codes "c:\\src\\") (codes "http://u/later/*") ∷ (below (codes "D:\\one.c") (codes "http://u/more/*")

@@ -113,8 +113,8 @@ frame_url urls frame = unwrap_or (option_and_then (url_of urls) (known_text fram
 abbrev pub HaveUrls : Urls → List FrameInfo → List FrameSource → Type 0
 HaveUrls urls frames sources = map (λ source. source.url) sources ≡ map (frame_url urls) frames
 
--- a text is the answer for a code address: the frames that are right there, each with the URL of its source file and the
--- source lines around it
+-- a text is the answer for a code address: the frames that are right there, each with the URL of its source file and
+-- the source lines around it
 pub record IsAnswer (questions : Questions) (question : Question) (right : ℕ → Option FramesInfo → Type 0)
     (address : Option ℕ) (text : List ℕ) : Type 0 where
   pub named : Option FramesInfo

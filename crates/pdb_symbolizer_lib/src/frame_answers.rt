@@ -113,8 +113,8 @@ fn text_of_found<R: Files + AllocGlobal>(
     Ok(text)
 }
 
-// The URL of each frame's source file, and the source lines around the frame's line. Either is empty if the options don't
-// ask for it.
+// The URL of each frame's source file, and the source lines around the frame's line. Either is empty if the options
+// don't ask for it.
 fn sources_of<R: Files + AllocGlobal>(
     rt: &R,
     questions: &Questions<'_, '_>,

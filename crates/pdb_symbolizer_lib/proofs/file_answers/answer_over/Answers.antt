@@ -12,7 +12,8 @@ returns-in_ok-queue-clause-answer g c =
     let questions = c.new-questions.result in
     let options = c.args.options.now in
     let session = c.args.input.now.session in
-    let as_given : AskOf options c.args.path.now c.args.urls.now c.args.input.now.image_base session.known.records questions
+    let urls = c.args.urls.now in
+    let as_given : AskOf options c.args.path.now urls c.args.input.now.image_base session.known.records questions
     = record {
       given = c.new-questions.ensures.options;
       named = c.new-questions.ensures.file;
@@ -40,7 +41,8 @@ returns-else-is_empty-clause-answer g c =
     let questions = c.new-questions.result in
     let options = c.args.options.now in
     let session = c.args.input.now.session in
-    let as_given : AskOf options c.args.path.now c.args.urls.now c.args.input.now.image_base session.known.records questions
+    let urls = c.args.urls.now in
+    let as_given : AskOf options c.args.path.now urls c.args.input.now.image_base session.known.records questions
     = record {
       given = c.new-questions.ensures.options;
       named = c.new-questions.ensures.file;
