@@ -3,3 +3,4 @@ pub mod OpeningLemmas
 pub mod LooseValues
 pub mod HandleValues
 pub mod FrameLemmas
+mod PartLemmas

@@ -17,7 +17,7 @@ use Rattle.pdb_c.specs.declared.call_error.CallError.TheVariants.{OldTypes, NoSe
 use Rattle.pdb_c.specs.declared.call_error.CallError.TheVariants.{BrokenStream, NoDebugId}
 use Rattle.pdb_msf.specs.declared.container_error.ContainerError.{ContainerError}
 use Rattle.pdb_msf.specs.declared.container_error.ContainerError.TheVariants as container
-use Rattle.pdb_msf.specs.declared.source_error.OpenError.TheVariants as open
+use Rattle.pdb_msf.specs.declared.source_error.OpenError.TheVariants as opening
 use Rattle.pdb_msf.specs.declared.source_error.SourceError.{SourceError}
 use Rattle.pdb_msf.specs.declared.source_error.SourceError.TheVariants as source
 use Rattle.pdb_session.specs.declared.session_error.SessionError.{SessionError}
@@ -100,8 +100,8 @@ refusal_of_file (file.Broken stream why) = BrokenStream
 -- what is answered where no session can be opened over bytes. Each range is in memory, so one that can't be read is
 -- after the end
 abbrev pub refusal_of_session : SessionError → CallError
-refusal_of_session (session.File (open.Container fault)) = refusal_of_container fault
-refusal_of_session (session.File open.Unreadable) = CutShort
+refusal_of_session (session.File (opening.Container fault)) = refusal_of_container fault
+refusal_of_session (session.File opening.Unreadable) = CutShort
 refusal_of_session (session.Refused refusal) = refusal_of_file refusal
 refusal_of_session (session.Records error) = refusal_of_records error
 

@@ -1,5 +1,5 @@
 -- Parts of a PDB file that are read for some addresses.
-use Rattle.std.specs.Prelude.{◌≡◌, ℕ, ℤ, pos, true, List, length, map, Option, None, Some, Result, Ok, Err}
+use Rattle.std.specs.Prelude.{◌≡◌, ℕ, ℤ, true, List, length, map, Option, None, Some, Result, Ok, Err}
 use Rattle.pdb_records.specs.Records.{Records}
 use Rattle.pdb_addr2line.specs.ContextInputs.{ContextState}
 use Rattle.pdb_known.specs.Known.{Known}
@@ -9,7 +9,6 @@ use Rattle.pdb_session.specs.Session.{needs_none}
 use Rattle.pdb_c.specs.declared.call_error.CallError.{CallError}
 use Rattle.pdb_c.specs.declared.call_error.CallError.TheVariants.{Closed}
 use Rattle.pdb_c.specs.Buffers.{Answers}
-use Rattle.pdb_c.specs.CallError.{code}
 use Rattle.pdb_c.specs.FoundFrames.{flag_number}
 use Rattle.pdb_c.specs.Openings.{context_over}
 use Rattle.pdb_c.specs.Questions.{is_read_at}
@@ -43,8 +42,7 @@ pub record EndsWithPart (file addresses : List ℕ) (held held' : Option (Contex
   pub left : Answers found before after wanted answer
   pub holds : LeavesPart file addresses found held held'
 
--- how the question ends whether a module was read: 1 or 0, with the context as it was; or refused, where there is none
-abbrev pub EndsWithFlag : (held held' : Option (ContextState Records)) → List ℕ → ℕ → ℤ → Type 0
-EndsWithFlag None held' flags address answer = (held' ≡ None) × (answer ≡ code Closed)
-EndsWithFlag (Some context) held' flags address answer =
-    (held' ≡ Some context) × (answer ≡ pos (flag_number (is_read_at flags context address)))
+-- whether the module whose code lies at an address was read, as a number; refused where no context is held
+abbrev pub flag_of_handle : Option (ContextState Records) → List ℕ → ℕ → Result ℕ CallError
+flag_of_handle None flags address = Err Closed
+flag_of_handle (Some context) flags address = Ok (flag_number (is_read_at flags context address))

@@ -1,5 +1,7 @@
 //! The calls for C over a PDB file of which only what is asked for is read.
-ghost use Rattle.pdb_c.specs.Parts.{EndsWithFlag, EndsWithPart};
+ghost use Rattle.std.specs.Prelude.{◌≡◌};
+ghost use Rattle.pdb_c.specs.Machines.{EndsWithNumber};
+ghost use Rattle.pdb_c.specs.Parts.{EndsWithPart, flag_of_handle};
 
 use crate::buffers::answer;
 use crate::found_frames::Question;
@@ -37,7 +39,8 @@ pub extern "C" fn limberlime_is_read_unchecked(
     address: u32,
     flags: &[u8],
 ) -> i64
-    ensures { EndsWithFlag handle.old.held handle.new.held flags.now address result }
+    ensures answer { EndsWithNumber (flag_of_handle handle.old.held flags.now address) result }
+    ensures state { handle.new.held ≡ handle.old.held }
 {
     match handle.answer(alloc, Question::IsRead(flags, address)) {
         Ok(found) => i64::from(found.start),
