@@ -92,7 +92,8 @@ enum limberlime_refusal {
     LIMBERLIME_STREAMS_TOO_LONG = -17,
     /* The PDB file is one that a compiler keeps, of objects and not of a program. */
     LIMBERLIME_OF_OBJECTS = -18,
-    /* The types of the PDB file have a form from before 2005. */
+    /* No call answers this number. Where the types of a PDB file have a form from before 2005, functions go by the names
+     * of their symbols. */
     LIMBERLIME_OLD_TYPES = -19,
     /* The PDB file was stripped of its section headers, so nothing says where code lies. */
     LIMBERLIME_NO_SECTION_HEADERS = -20,

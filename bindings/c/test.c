@@ -48,7 +48,6 @@ static const struct {
     {"superblock_alone.pdb", LIMBERLIME_CUT_SHORT},
     {"streams_too_long.pdb", LIMBERLIME_STREAMS_TOO_LONG},
     {"objects.pdb", LIMBERLIME_OF_OBJECTS},
-    {"old_types.pdb", LIMBERLIME_OLD_TYPES},
     {"stripped.pdb", LIMBERLIME_NO_SECTION_HEADERS},
     {"rearranged_to.pdb", LIMBERLIME_REARRANGED},
     {"cut_debug.pdb", LIMBERLIME_BROKEN_STREAM},
@@ -86,6 +85,8 @@ static void refused_paths(const char *folder)
     }
     snprintf(path, sizeof path, "%s/missing.pdb", folder);
     expect("no file", limberlime_open_path(path, &handle) == LIMBERLIME_CANNOT_READ_FILE);
+    snprintf(path, sizeof path, "%s/old_types.pdb", folder);
+    expect("types from before 2005 are left out", limberlime_open_path(path, &handle) == 0);
     expect("a folder", limberlime_open_path(folder, &handle) == LIMBERLIME_CANNOT_READ_FILE);
     expect("a device", limberlime_open_path("/dev/null", &handle) == LIMBERLIME_CANNOT_READ_FILE);
     expect("no path", limberlime_open_path(NULL, &handle) == LIMBERLIME_NULL_POINTER);

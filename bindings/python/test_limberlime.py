@@ -22,7 +22,7 @@ REFUSED = {
     "text.pdb": Refusal.NOT_A_PDB_FILE, "program.exe": Refusal.PROGRAM, "portable.pdb": Refusal.PORTABLE_PDB,
     "compressed.pd_": Refusal.COMPRESSED, "version_2.pdb": Refusal.OLD_PDB_FILE,
     "superblock_alone.pdb": Refusal.CUT_SHORT, "streams_too_long.pdb": Refusal.STREAMS_TOO_LONG,
-    "objects.pdb": Refusal.OF_OBJECTS, "old_types.pdb": Refusal.OLD_TYPES,
+    "objects.pdb": Refusal.OF_OBJECTS,
     "stripped.pdb": Refusal.NO_SECTION_HEADERS, "rearranged_to.pdb": Refusal.REARRANGED,
     "cut_debug.pdb": Refusal.BROKEN_STREAM,
 }

@@ -37,7 +37,8 @@ pub enum Error {
     StreamsTooLong,
     /// The PDB file is a compiler's, of objects and not of a program.
     OfObjects,
-    /// The types of the PDB file have a form from before 2005.
+    /// The types of the PDB file have a form from before 2005. No call answers this: functions then go by the names of
+    /// their symbols.
     OldTypes,
     /// The PDB file was stripped of what says where code lies.
     NoSectionHeaders,

@@ -100,7 +100,7 @@ fn files_that_are_none_are_refused_as_what_they_are() {
     assert_eq!(error_of("superblock_alone.pdb"), Some(Error::CutShort));
     assert_eq!(error_of("streams_too_long.pdb"), Some(Error::StreamsTooLong));
     assert_eq!(error_of("objects.pdb"), Some(Error::OfObjects));
-    assert_eq!(error_of("old_types.pdb"), Some(Error::OldTypes));
+    assert_eq!(error_of("old_types.pdb"), None);
     assert_eq!(error_of("stripped.pdb"), Some(Error::NoSectionHeaders));
     assert_eq!(error_of("rearranged_to.pdb"), Some(Error::Rearranged));
     assert_eq!(error_of("cut_debug.pdb"), Some(Error::BrokenStream));

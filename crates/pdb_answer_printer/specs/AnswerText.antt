@@ -9,7 +9,7 @@ use Rattle.pdb_answer_printer.specs.declared.printer_options.PrinterOptions.{Pri
 use Rattle.pdb_answer_printer.specs.declared.printer_options.Style.{Style}
 use Rattle.pdb_answer_printer.specs.declared.printer_options.Style.TheVariants.{Json}
 
--- the lines of an answer: the address, what is known, and the end of the answer
+-- the text of an answer: the address, these lines, and the end of the answer
 abbrev pub answer_of_lines : PrinterOptions → Question → List ℕ → List ℕ
 answer_of_lines options question lines =
     address_line options question.target ++ (lines ++ answer_end options.style)

@@ -1,9 +1,9 @@
-//! Times what is done with a records file: reading it, making a context, and asking for addresses.
+//! Times the work with a records file: reading it, making a context, and looking up addresses.
 //!
-//! `pdb_bench RECORDS ADDRESSES` reads the records file, and the addresses from a file with a line for each, in
-//! hexadecimal. One context is asked for the function over each address, and another for the frames, several times
-//! over. What was found goes to standard output, and how long each step took, with the most memory that the program
-//! had so far, to standard error.
+//! `pdb_bench RECORDS ADDRESSES` reads a records file, and addresses from a file with one hexadecimal address per line.
+//! One context looks up the function at each address, and another the frames, several times each. The numbers of
+//! functions and frames go to standard output. The time of each step, and the peak memory of the program so far, go to
+//! standard error.
 #![tactic(auto)]
 
 mod passes;
@@ -27,7 +27,7 @@ fn main(rt: HostRuntime) -> Result<()> {
     measure_files(&rt, records.as_str(), addresses.as_str())
 }
 
-/// Reads the two files, and asks for the addresses.
+/// Reads the two files, and looks up the addresses.
 fn measure_files<R: Files + Clock + Print + Eprint + AllocGlobal>(
     rt: &R,
     records: &str,

@@ -1,4 +1,4 @@
-//! Passes over addresses: a context asked for functions or for frames, again and again, with the time of each.
+//! Passes over addresses: repeated lookups of functions or of frames in one context, with the time of each pass.
 
 use crate::steps::{print_memory, print_time};
 use anyhow::Result;
@@ -7,7 +7,7 @@ use pdb_addr2line::{Context, ContextPdbData, ModuleProvider};
 use std::rt::{Clock, Files};
 use std::time::Instant;
 
-/// The passes over the addresses. The first one reads the records, and the later ones find what is cached of them.
+/// The passes over the addresses. The first one reads the records, and the later ones find them cached.
 const PASSES: [&str; 5] = [
     "first pass",
     "second pass",
@@ -16,7 +16,7 @@ const PASSES: [&str; 5] = [
     "fifth pass",
 ];
 
-/// What an address is asked for.
+/// The kind of lookup.
 #[derive(Clone, Copy)]
 enum Question {
     Function,
@@ -24,7 +24,7 @@ enum Question {
 }
 
 impl Question {
-    /// What is found, in a word.
+    /// The name of what is looked up.
     fn name(self) -> &'static str {
         match self {
             Question::Function => "functions",
@@ -33,7 +33,7 @@ impl Question {
     }
 }
 
-/// Holds records, and asks for addresses over them.
+/// Owns records, and looks up addresses in them.
 pub(crate) fn measure_records<R: Files + Clock + Print + Eprint + AllocGlobal>(
     rt: &R,
     records: PDB,
@@ -43,7 +43,7 @@ pub(crate) fn measure_records<R: Files + Clock + Print + Eprint + AllocGlobal>(
     measure_data(rt, &data, addresses)
 }
 
-/// Asks for the functions and for the frames of addresses. Each of the two has a context of its own.
+/// Looks up the functions and the frames at addresses, in two contexts.
 fn measure_data<R: Files + Clock + Print + Eprint + AllocGlobal>(
     rt: &R,
     data: &ContextPdbData<'_>,
@@ -55,7 +55,7 @@ fn measure_data<R: Files + Clock + Print + Eprint + AllocGlobal>(
     print_memory(rt)
 }
 
-/// Makes a context, and goes over the addresses.
+/// Makes a context, and looks up the addresses.
 fn measure_question<R: Clock + Print + Eprint>(
     rt: &R,
     data: &ContextPdbData<'_>,
@@ -67,7 +67,7 @@ fn measure_question<R: Clock + Print + Eprint>(
     measure_passes(rt, &mut context, start, addresses, question)
 }
 
-/// Goes over the addresses several times. The context was begun at this time.
+/// Looks up the addresses several times. `begun` is when the context was started.
 fn measure_passes<R: Clock + Print + Eprint, P: ModuleProvider>(
     rt: &R,
     context: &mut Context<'_, P>,
@@ -82,7 +82,7 @@ fn measure_passes<R: Clock + Print + Eprint, P: ModuleProvider>(
     Ok(())
 }
 
-/// Goes over the addresses once.
+/// Looks up the addresses once.
 fn measure_pass<R: Clock + Print + Eprint, P: ModuleProvider>(
     rt: &R,
     context: &mut Context<'_, P>,

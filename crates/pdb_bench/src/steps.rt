@@ -1,11 +1,11 @@
-//! How long a step took, and the most memory so far, on standard error.
+//! Prints the time of a step, and the peak memory so far, on standard error.
 
 use anyhow::Result;
 use std::fs;
 use std::rt::{Clock, Files};
 use std::time::Instant;
 
-/// Where the system shows what it knows of the program.
+/// The file in which the system shows the state of the program.
 const STATUS: &str = "/proc/self/status";
 
 /// Prints how long it is since a step began.
@@ -15,7 +15,7 @@ pub(crate) fn print_time<R: Clock + Eprint>(rt: &R, step: &str, begun: Instant) 
     Ok(())
 }
 
-/// Prints the most memory that the program had so far, where the system shows it.
+/// Prints the peak memory of the program so far, if the system shows it.
 pub(crate) fn print_memory<R: Files + Eprint + AllocGlobal>(rt: &R) -> Result<()> {
     let Ok(status) = fs::read_to_string(rt, STATUS) else {
         return Ok(());

@@ -7,21 +7,18 @@ use crate::call_error::CallError;
 use crate::handle::Handle;
 use crate::openings::accepted_records;
 use pdb_addr2line::pdb::PDB;
-use pdb_container::{PdbFile, read_identity, read_pdb_file};
+use pdb_container::parts::code_refusal;
+use pdb_container::{read_identity, read_pdb};
 use pdb_identity::DebugId;
 use pdb_repairs::repair_records;
 use std::alloc::{AllocError, Global};
 
-// Reads the records of a PDB file, before repairs. Refused if nothing can be answered over them.
+// Reads the records of a PDB file, before repairs. Refused if nothing can be answered over them after repairs.
 fn records_of_file(alloc: Global, bytes: &[u8]) -> Result<PDB, CallError>
     ensures { IfOk result (λ records. records_of bytes.now ≡ Ok records) }
 {
-    let PdbFile {
-        records,
-        refusal,
-        names_only: _,
-    } = read_pdb_file(alloc, bytes)?;
-    match refusal {
+    let records = read_pdb(alloc, bytes)?;
+    match code_refusal(&records) {
         None => Ok(records),
         Some(why) => Err(CallError::from(why)),
     }

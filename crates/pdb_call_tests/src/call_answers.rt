@@ -21,7 +21,7 @@ pub(crate) fn text_of_answer(alloc: Global, answer: &Answer<'_>) -> Result<Strin
     }
 }
 
-/// An answer as text, of a clone where a function or frames were found.
+/// An answer as text. For a function or frames, the text is that of a clone.
 pub(crate) fn text_of_clone(alloc: Global, answer: &Answer<'_>) -> Result<String, AllocError> {
     match answer {
         Answer::Function(Some(function)) => text_of_function(alloc, &function.clone()?),
@@ -36,7 +36,7 @@ pub(crate) fn text_of_error(alloc: Global, error: &Error) -> Result<String, Allo
     joined(alloc, "! ", text.as_str(), "")
 }
 
-/// A name as text, or `?` where none is known.
+/// A name as text, or `?` if it isn't known.
 fn text_of_name(name: &Option<String>) -> &str {
     match name {
         Some(name) => name.as_str(),
@@ -52,7 +52,7 @@ fn text_of_address(alloc: Global, address: Option<u32>) -> Result<String, AllocE
     }
 }
 
-/// A line as text, or `?` where none is known.
+/// A line as text, or `?` if it isn't known.
 fn text_of_line(alloc: Global, line: Option<u32>) -> Result<String, AllocError> {
     match line {
         Some(line) => line.to_string(alloc),
@@ -60,20 +60,20 @@ fn text_of_line(alloc: Global, line: Option<u32>) -> Result<String, AllocError> 
     }
 }
 
-/// Where a function lies.
+/// The address range of a function as text.
 fn text_of_range(alloc: Global, start: u32, end: Option<u32>) -> Result<String, AllocError> {
     let start = text_of_address(alloc, Some(start))?;
     let end = text_of_address(alloc, end)?;
     joined(alloc, start.as_str(), "..", end.as_str())
 }
 
-/// A function as text: where it lies, and its name.
+/// A function as text: its address range and its name.
 fn text_of_function(alloc: Global, function: &Function) -> Result<String, AllocError> {
     let range = text_of_range(alloc, function.start_rva, function.end_rva)?;
     joined(alloc, range.as_str(), " ", text_of_name(&function.name))
 }
 
-/// Functions as text, one after the other.
+/// Functions as text, in order.
 fn text_of_functions(alloc: Global, functions: &[Function]) -> Result<String, AllocError> {
     let mut text = String::new(alloc);
     for function in functions {
@@ -102,7 +102,7 @@ fn text_of_frame(alloc: Global, frame: &Frame<'_>) -> Result<String, AllocError>
     joined(alloc, text_of_name(&frame.function), " at ", place.as_str())
 }
 
-/// Frames as text: where the function lies, and then each frame.
+/// Frames as text: the address range of the function, then each frame.
 fn text_of_frames(alloc: Global, frames: &FunctionFrames<'_>) -> Result<String, AllocError> {
     let mut text = text_of_range(alloc, frames.start_rva, frames.end_rva)?;
     for frame in &frames.frames {

@@ -1,4 +1,4 @@
-//! Lists of calls, and what is wanted of them.
+//! Lists of calls, and their expected answers.
 
 use crate::call_answers::{text_of_answer, text_of_clone};
 use crate::texts::{around, hexadecimal, module_index};
@@ -66,7 +66,7 @@ fn id_call(text: &str) -> Option<Call<'_>> {
     Some(Call::FormatId(module, IdIndex(hexadecimal(index)?)))
 }
 
-/// The call that a text spells, if it is one.
+/// The call in a text, if it is one.
 fn call_of(text: &str) -> Option<Call<'_>> {
     let (word, rest) = around(text, " ").unwrap_or((text, ""));
     match word {
@@ -81,12 +81,12 @@ fn call_of(text: &str) -> Option<Call<'_>> {
     }
 }
 
-/// A line's call and what is wanted of it.
+/// The call in a line, and its expected answer.
 fn parts(line: &str) -> (&str, &str) {
     around(line, " | ").unwrap_or((line, ""))
 }
 
-/// A size that is asked for: the module index of the module that asks, the index, and the size that is wanted.
+/// A size question: the module index of the module that has the index, the index, and the expected size.
 #[derive(Clone, Copy)]
 pub(crate) struct WantedSize {
     pub(crate) module: usize,
@@ -94,7 +94,7 @@ pub(crate) struct WantedSize {
     pub(crate) size: u64,
 }
 
-/// The size that a line asks for, if it asks for one.
+/// The size question in a line, if it is one.
 pub(crate) fn wanted_size(line: &str) -> Option<WantedSize> {
     let (text, wanted) = parts(line);
     let Call::TypeSize(module, index) = call_of(text)? else {
@@ -108,7 +108,7 @@ pub(crate) fn wanted_size(line: &str) -> Option<WantedSize> {
     })
 }
 
-/// The calls of a list. A line that is none has none.
+/// The calls of a list, as far as its lines are calls.
 pub(crate) fn calls_of(alloc: Global, list: CallList<'_>) -> Result<Vec<Call<'_>>, AllocError> {
     let mut calls = Vec::new(alloc);
     for line in list.lines.lines() {
@@ -119,27 +119,27 @@ pub(crate) fn calls_of(alloc: Global, list: CallList<'_>) -> Result<Vec<Call<'_>
     Ok(calls)
 }
 
-/// How often a call for which there is no memory is made.
+/// How often a call is repeated after an allocation failure.
 const ATTEMPTS: usize = 3;
 
-/// What came of a list of calls.
+/// The outcome of a list of calls.
 #[derive(Clone, Copy)]
 pub(crate) struct Outcome {
-    /// Whether the answers are other ones than are wanted.
+    /// Whether the answers differ from the expected ones.
     pub(crate) differs: bool,
-    /// Whether there was no memory for a call, which was then made again.
+    /// Whether an allocation failed in a call, which was then repeated.
     pub(crate) made_again: bool,
 }
 
 impl Outcome {
-    /// There was no memory, however often it was asked for.
+    /// The outcome if allocations failed in each attempt.
     const NO_ANSWERS: Outcome = Outcome {
         differs: true,
         made_again: true,
     };
 }
 
-/// What comes of a list of calls.
+/// Runs a list of calls, and returns its outcome.
 pub(crate) fn outcome_of(
     alloc: Global,
     data: &ContextPdbData<'_>,
@@ -155,7 +155,7 @@ pub(crate) fn outcome_of(
     }
 }
 
-/// What comes of a list of these calls over a new context, and whether that was made again.
+/// Runs these calls in a new context, and tells whether the context had to be made again.
 fn outcome_over(
     alloc: Global,
     context: Context<'_, ContextPdbData<'_>>,
@@ -172,8 +172,8 @@ fn outcome_over(
     })
 }
 
-/// Has a context answer calls, and answers how often there was no memory for one. That one is made again, and
-/// the ones after it are made then.
+/// Makes calls to a context, and returns how often an allocation failed. After a failure, the call is repeated, and
+/// then the calls after it are made.
 fn refusals_of<'d>(
     context: &mut Context<'d, ContextPdbData<'_>>,
     calls: &[Call<'_>],
@@ -188,7 +188,7 @@ fn refusals_of<'d>(
     ATTEMPTS
 }
 
-/// Whether texts are those that are wanted, one for each line.
+/// Whether texts are the expected ones, one for each line.
 fn are_texts(list: CallList<'_>, texts: &[String]) -> bool {
     let mut left = texts;
     for line in list.lines.lines() {
@@ -200,14 +200,14 @@ fn are_texts(list: CallList<'_>, texts: &[String]) -> bool {
     left.is_empty()
 }
 
-/// What of answers is looked at.
+/// Which texts of answers are compared.
 #[derive(Clone, Copy)]
 pub(crate) enum Looked {
     Answers,
     Clones,
 }
 
-/// Whether answers, or clones of them, are those that are wanted, one for each line.
+/// Whether answers, or clones of them, are the expected ones, one for each line.
 pub(crate) fn are_wanted(
     alloc: Global,
     list: CallList<'_>,

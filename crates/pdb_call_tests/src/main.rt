@@ -1,32 +1,32 @@
-//! Asks over the records files beside it, and compares the answers with what is wanted.
+//! Makes calls over the records files in its folder, and compares the answers with the expected ones.
 //!
 //! Each file of questions has a line `file NAME` for each records file, and below it the questions for that one.
 //!
-//! `calls.txt` has lists of calls: a line `CALL | ANSWER` for each call, and an empty line after each list. A
-//! list goes to a context of its own, in one run. The calls are `function ADDRESS`, `frames ADDRESS`, `functions`,
-//! `count`, `size MODULE INDEX`, `signature MODULE INDEX NAME` and `id MODULE INDEX`, with addresses and indices
-//! in hexadecimal. In an answer `!` stands before the text of an error.
+//! `calls.txt` has lists of calls: a line `CALL | ANSWER` for each call, and an empty line after each list. Each list
+//! is run in a context of its own. The calls are `function ADDRESS`, `frames ADDRESS`, `functions`, `count`, `size
+//! MODULE INDEX`, `signature MODULE INDEX NAME` and `id MODULE INDEX`, with addresses and indices in hexadecimal. In an
+//! answer, `!` precedes the text of an error.
 //!
-//! `sizes.txt` has a line `MODULE INDEX SIZE` for each size: the module index of the module that asks, the index in
-//! hexadecimal, and the size in bytes. The questions over a file are asked by as many formatters as there are,
-//! each of them another one first.
+//! `sizes.txt` has a line `MODULE INDEX SIZE` for each size: the module index of the module that has the index, the
+//! index in hexadecimal, and the size in bytes. The questions over a file are asked once for each of them, in a new
+//! formatter that is asked this one first.
 //!
-//! `signatures.txt` has a line `FLAGS MODULE INDEX NAME | OUTCOME | TEXT` for each signature: what a string holds
-//! after the signature was written into it, and the outcome, which is `ok` or the text of an error. Questions that
-//! follow each other with the same flags go to one formatter, which remembers the parts of the records that it met
-//! broken.
+//! `signatures.txt` has a line `FLAGS MODULE INDEX NAME | OUTCOME | TEXT` for each signature: the content of a string
+//! after the signature was written into it, and the outcome, which is `ok` or the text of an error. Consecutive
+//! questions with the same flags go to one formatter, which remembers the broken parts of the records that it found.
 //!
-//! `ids.txt` is such a file too. A line with no NAME asks for the id of the index; one with a NAME asks for a
-//! signature, where a formatter is to be asked for both. Its last records file, `small_x64_types.json`, has the
-//! types and ids of a genuine program.
+//! `ids.txt` is such a file too. A line without NAME asks for the id of the index. A line with one asks for a
+//! signature, to test a formatter with both. Its last records file, `small_x64_types.json`, has the types and ids of a
+//! genuine program.
 //!
-//! `ways.txt` has lists of calls as `calls.txt` has. Each goes to contexts that are made in other ways: with flags, of
-//! parts, of parts whose provider counts, and over lent records. They answer at once, one by one, and in clones.
+//! `ways.txt` has lists of calls as `calls.txt` has. Each list goes to contexts that are made in other ways: with
+//! flags, from parts, from parts whose provider counts, and over borrowed records. The calls are made at once and one
+//! by one, and the answers are cloned.
 //!
-//! `lent.txt` has a line `NAME | OUTCOME` for each records file whose records are lent: `taken`, or the text of an
-//! error after `!`. Either way they stay as they were.
+//! `lent.txt` has a line `NAME | OUTCOME` for each records file whose records are borrowed: `taken`, or the text of an
+//! error after `!`. In both cases the records stay unchanged.
 //!
-//! `parts.txt` has a line `NAME | PART` for each part of a context that no list of calls shows, over a records file.
+//! `parts.txt` has a line `NAME | PART` for each part of a context that no list of calls tests, over a records file.
 #![tactic(auto)]
 
 mod call_answers;
@@ -50,7 +50,7 @@ use std::{fs, io};
 use tally::Tally;
 use texts::{around, print_line};
 
-/// What is asked for.
+/// The subject of a test.
 #[derive(Clone, Copy)]
 enum Subject {
     Calls,
@@ -62,7 +62,7 @@ enum Subject {
     Parts,
 }
 
-/// All of it, in the order in which it is asked for: the file with the questions, and what was asked, in a word.
+/// All subjects in order, each with its file of questions and its name.
 const SUBJECTS: [(Subject, &str, &str); 7] = [
     (Subject::Calls, "calls.txt", "calls"),
     (Subject::Sizes, "sizes.txt", "sizes"),
@@ -81,7 +81,7 @@ fn main(rt: HostRuntime) -> io::Result<()> {
     Ok(())
 }
 
-/// Asks all questions of a subject, and counts them and the answers that differ: of calls, the lists of them.
+/// Asks all questions of a subject, and counts them and the answers that differ; for calls it counts lists.
 fn compare<R: Files + Print + AllocGlobal>(
     rt: &R,
     subject: Subject,
@@ -123,7 +123,7 @@ fn over_line<R: Files + Print + AllocGlobal>(
     Ok(tally.asked(1).differing())
 }
 
-/// Whether what is asked over a file is as is wanted.
+/// Whether the answer over a file is the expected one.
 fn is_as_wanted(alloc: Global, subject: Subject, bytes: &[u8], wanted: &str) -> bool {
     match subject {
         Subject::Lent => lent_records::stay_as_lent(alloc, bytes, wanted),
@@ -148,7 +148,7 @@ fn over_files<R: Files + Print + AllocGlobal>(
     Ok(tally)
 }
 
-/// Asks the questions over one file. A file that is refused counts as a question whose answer differs.
+/// Asks the questions over one file. A refused file counts as a question whose answer differs.
 fn over_file<R: Files + Print + AllocGlobal>(
     rt: &R,
     subject: Subject,

@@ -1,11 +1,11 @@
-//! Contexts and formatters that are made of parts, and a provider that counts.
+//! Contexts and formatters made from parts, and a provider that counts.
 
 use pdb_addr2line::pdb::{Module, ModuleInfo, PDB, StreamError};
 use pdb_addr2line::{Context, ModuleProvider, TypeFormatter, TypeFormatterFlags};
 use std::alloc::{AllocError, Global};
 use std::cell::Cell;
 
-/// Counts how often another provider is asked.
+/// A provider that counts the calls to another one.
 #[derive(Drop)]
 pub(crate) struct Counting<'p, P: ModuleProvider> {
     pub(crate) provider: &'p P,
@@ -25,7 +25,7 @@ impl<'p, P: ModuleProvider> ModuleProvider for Counting<'p, P> {
     }
 }
 
-/// A context over these records, whose modules a provider knows, and with a formatter.
+/// A context over these records, with this provider of their modules and this formatter.
 pub(crate) fn context_of<'a, P: ModuleProvider>(
     alloc: Global,
     provider: &'a P,
@@ -63,7 +63,7 @@ fn copies(alloc: Global, modules: &[Module]) -> Result<Vec<Module>, AllocError> 
     Ok(copies)
 }
 
-/// A formatter over these records, whose modules a provider knows.
+/// A formatter over these records, with this provider of their modules.
 fn formatter_of<'a, P: ModuleProvider>(
     alloc: Global,
     provider: &'a P,
@@ -82,7 +82,7 @@ fn formatter_of<'a, P: ModuleProvider>(
     TypeFormatter::new_from_parts(alloc, provider, modules, debug, types, ids, strings, flags).ok()
 }
 
-/// A context over these records, whose modules a provider knows.
+/// A context over these records, with this provider of their modules.
 pub(crate) fn context_over<'a, P: ModuleProvider>(
     alloc: Global,
     provider: &'a P,

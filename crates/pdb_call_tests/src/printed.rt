@@ -1,4 +1,4 @@
-//! Signatures and ids that are asked for, and what is wanted of them.
+//! Questions for signatures and ids, with the expected answers.
 
 use crate::texts::{around, hexadecimal, module_index};
 use bitflags::Flags;
@@ -16,22 +16,22 @@ pub(crate) enum Asked<'t> {
     Id(IdIndex),
 }
 
-/// A signature or an id that is asked for, with what is wanted.
+/// A question for a signature or an id, with the expected answer.
 #[derive(Clone, Copy)]
 pub(crate) struct PrintedQuestion<'t> {
     /// The bits of the flags.
     pub(crate) flags: u32,
-    /// The module index of the module that asks.
+    /// The module index of the module that has the index.
     pub(crate) module: usize,
     /// What is to be printed.
     pub(crate) asked: Asked<'t>,
     /// `ok`, or the text of the error.
     pub(crate) outcome: &'t str,
-    /// What a string holds afterwards.
+    /// The content of the string afterwards.
     pub(crate) text: &'t str,
 }
 
-/// What the rest of a line asks for: `INDEX NAME` for a signature, or `INDEX` for an id.
+/// The question in the rest of a line: `INDEX NAME` for a signature, or `INDEX` for an id.
 fn asked_of(rest: &str) -> Option<Asked<'_>> {
     match around(rest, " ") {
         Some((index, name)) => Some(Asked::Signature(name, TypeIndex(hexadecimal(index)?))),
@@ -55,7 +55,7 @@ pub(crate) fn printed_question_of(line: &str) -> Option<PrintedQuestion<'_>> {
     })
 }
 
-/// Has a formatter write what is asked for.
+/// Makes a formatter write the answer to a question.
 fn emit<W: fmt::Write>(
     formatter: &mut TypeFormatter<'_, ContextPdbData<'_>>,
     writer: &mut W,
@@ -69,7 +69,7 @@ fn emit<W: fmt::Write>(
     }
 }
 
-/// Whether an outcome is the one that is wanted, and nothing else.
+/// Whether an outcome is exactly the expected one.
 fn is_wanted(alloc: Global, outcome: &Result<(), Error>, wanted: &str) -> bool {
     match outcome {
         Ok(()) => wanted == "ok",
@@ -79,7 +79,7 @@ fn is_wanted(alloc: Global, outcome: &Result<(), Error>, wanted: &str) -> bool {
     }
 }
 
-/// Takes texts while there is room for them, and refuses the first that it has no room for.
+/// A writer that takes texts while there is room for them, and refuses the first that doesn't fit.
 #[derive(Drop)]
 struct Narrow {
     held: String,
@@ -96,7 +96,7 @@ impl fmt::Write for Narrow {
     }
 }
 
-/// Whether a formatter shows that a writer with this much room refuses, and wrote a beginning of the text.
+/// Whether a formatter reports that a writer with this much room refused, after it took the start of the text.
 fn answers_refusal(
     alloc: Global,
     formatter: &mut TypeFormatter<'_, ContextPdbData<'_>>,
@@ -113,7 +113,7 @@ fn answers_refusal(
         && question.text.as_bytes().get(..held.len()) == Some(held)
 }
 
-/// Whether a formatter shows that each writer refuses that has less room than the text takes.
+/// Whether a formatter reports the refusal of each writer that has less room than the text takes.
 fn answers_each_refusal(
     alloc: Global,
     formatter: &mut TypeFormatter<'_, ContextPdbData<'_>>,
@@ -122,7 +122,7 @@ fn answers_each_refusal(
     (0..question.text.len()).all(|room| answers_refusal(alloc, formatter, question, room))
 }
 
-/// Whether a formatter writes what is wanted, and answers as is wanted.
+/// Whether a formatter writes the expected text and has the expected result.
 fn answers_whole(
     alloc: Global,
     formatter: &mut TypeFormatter<'_, ContextPdbData<'_>>,
@@ -133,9 +133,9 @@ fn answers_whole(
     is_wanted(alloc, &outcome, question.outcome) && text.as_str() == question.text
 }
 
-/// Whether a formatter answers a question as is wanted, also to writers that refuse. Where a text is wanted these
-/// come first, and the formatter then answers as before. Where an error is wanted they come last, since a part of
-/// the records that is met broken answers its own error once.
+/// Whether a formatter answers a question as expected, also with writers that refuse. If a text is expected, these
+/// writers come first, and the formatter must answer as usual afterwards. If an error is expected, they come last,
+/// since a broken part of the records returns its own error only once.
 pub(crate) fn answers(
     alloc: Global,
     formatter: &mut TypeFormatter<'_, ContextPdbData<'_>>,

@@ -1,4 +1,4 @@
-//! Parts of contexts that no list of calls shows.
+//! Parts of contexts that no list of calls tests.
 
 use pdb_addr2line::parts::{
     BasicModuleInfo, InlineRange, ProcedureSymbolFunction, compute_procedure_inline_ranges,
@@ -8,7 +8,7 @@ use pdb_addr2line::{Context, ContextPdbData, ModuleProvider, Result, TypeFormatt
 use std::alloc::Global;
 use std::collections::BTreeSet;
 
-/// Whether what is named so is as it should be over the records: `starts`, how many starts of functions are tried;
+/// Whether a named part works as it should over the records: `starts`, the number of function starts that are tried;
 /// `ranges`, the inline ranges of a procedure; `procedures`, the records of modules and the procedures in them;
 /// `formatter`, one with flags of its own over a program with no module.
 pub(crate) fn is_as_it_should(alloc: Global, data: &ContextPdbData<'_>, name: &str) -> bool {
@@ -21,7 +21,7 @@ pub(crate) fn is_as_it_should(alloc: Global, data: &ContextPdbData<'_>, name: &s
     }
 }
 
-/// Whether so many starts of functions are left after those that are tried up to the last function.
+/// Whether the expected number of function starts is left after those up to the last function were tried.
 fn are_tried(context: &mut Context<'_, ContextPdbData<'_>>) -> bool {
     let Ok(mut functions) = context.functions() else {
         return false;
@@ -31,14 +31,13 @@ fn are_tried(context: &mut Context<'_, ContextPdbData<'_>>) -> bool {
     before == 3 && functions.remaining() == 0
 }
 
-/// Whether a context tries three starts of functions. The end of the section is among them, and no function lies
-/// over it.
+/// Whether a context tries three function starts. One of them is the end of the section, where no function is.
 fn has_three_starts(data: &ContextPdbData<'_>) -> bool {
     data.make_context()
         .is_ok_and(|mut context| are_tried(&mut context))
 }
 
-/// What is added for the outer site: it has no row of its own, so the range has no file and no line.
+/// The range that is added for the outer site: it has no row of its own, so the range has no file and no line.
 static OUTER: InlineRange = InlineRange {
     start_offset: 32,
     end_offset: 48,
@@ -58,7 +57,7 @@ static INNER: InlineRange = InlineRange {
     line_start: Some(7),
 };
 
-/// Whether two ranges are of the same code, and shown by the same row.
+/// Whether two ranges have the same code and come from the same row.
 fn are_alike(range: &InlineRange, other: &InlineRange) -> bool {
     range.start_offset == other.start_offset
         && range.end_offset == other.end_offset

@@ -1,4 +1,4 @@
-//! Sizes of types that are asked for by their index, and what is wanted.
+//! Questions for sizes of types by their index, with the expected sizes.
 
 use crate::tally::Tally;
 use crate::texts::{around, hexadecimal, module_index, print_line};
@@ -7,7 +7,7 @@ use pdb_addr2line::{ContextPdbData, TypeFormatter};
 use std::alloc::{AllocError, Global};
 use std::io;
 
-/// A question for a size, and the size that is wanted.
+/// A question for a size, and the expected size.
 #[derive(Clone, Copy)]
 struct Question<'t> {
     /// The line that asks it.

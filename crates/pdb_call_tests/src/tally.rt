@@ -1,6 +1,6 @@
-//! Counts what was asked, and what was answered otherwise than wanted.
+//! Counts questions, and answers that differ from the expected ones.
 
-/// What was asked, and what differed from what is wanted.
+/// The number of questions, and of answers that differ from the expected ones.
 #[derive(Clone, Copy)]
 pub(crate) struct Tally {
     pub(crate) asked: u64,
@@ -14,7 +14,7 @@ impl Tally {
         differ: 0,
     };
 
-    /// So many more that were asked.
+    /// The tally with `count` more questions.
     pub(crate) fn asked(self, count: u64) -> Tally {
         Tally {
             asked: self.asked.saturating_add(count),
@@ -22,7 +22,7 @@ impl Tally {
         }
     }
 
-    /// One more that differs.
+    /// The tally with one more answer that differs.
     pub(crate) fn differing(self) -> Tally {
         Tally {
             asked: self.asked,

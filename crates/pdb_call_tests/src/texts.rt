@@ -3,7 +3,7 @@
 use std::alloc::{AllocError, Global};
 use std::io;
 
-/// What stands before a text in another one, and what stands after it.
+/// The parts of a text before and after another one that it contains.
 pub(crate) fn around<'t>(text: &'t str, inner: &str) -> Option<(&'t str, &'t str)> {
     text.split_once(inner)
 }
@@ -19,13 +19,13 @@ pub(crate) fn module_index(text: &str) -> Option<(usize, &str)> {
     Some((word.parse::<usize>().ok()?, rest))
 }
 
-/// Prints a line, and what is said of it.
+/// Prints a line, and a remark about it.
 pub(crate) fn print_line<R: Print>(rt: &R, line: &str, said: &str) -> io::Result<()> {
     rt.print(line)?;
     rt.println(said)
 }
 
-/// Three texts, one after the other.
+/// Three texts joined.
 pub(crate) fn joined(
     alloc: Global,
     first: &str,

@@ -14,7 +14,7 @@ use std::alloc::Global;
 use std::cell::Cell;
 use std::io;
 
-/// Has contexts that are made in each of the ways answer the lists over a records file.
+/// Runs the lists over a records file in contexts that are made in each way.
 pub(crate) fn over_data<R: Print + AllocGlobal>(
     rt: &R,
     data: &ContextPdbData<'_>,
@@ -33,7 +33,7 @@ pub(crate) fn over_data<R: Print + AllocGlobal>(
     Ok(tally)
 }
 
-/// Whether contexts that are made in each of the ways answer a list.
+/// Whether contexts that are made in each way answer a list as expected.
 fn is_answered_in_each_way(
     alloc: Global,
     data: &ContextPdbData<'_>,
@@ -76,14 +76,14 @@ fn is_answered_when_lent(alloc: Global, records: &mut PDB, list: CallList<'_>) -
     })
 }
 
-/// Whether the context that is made of something answers a list.
+/// Whether the context made from this data answers a list as expected.
 fn is_answered_over(alloc: Global, data: &ContextPdbData<'_>, list: CallList<'_>) -> bool {
     data.make_context()
         .is_ok_and(|context| is_answered_by(alloc, context, list))
 }
 
-/// Whether a context answers a list, at once and one by one, and has its functions by their start addresses, and the
-/// formatter that it gives back then answers the sizes in it.
+/// Whether a context answers a list as expected, at once and one by one, and finds its functions by their start
+/// addresses. Its formatter must then answer the sizes in the list.
 fn is_answered_by<P: ModuleProvider>(
     alloc: Global,
     context: Context<'_, P>,
@@ -170,7 +170,7 @@ fn starts_lead_to_functions<P: ModuleProvider>(
     }
 }
 
-/// Asks a context by the call's own method, and appends the answer.
+/// Makes a call by its own method of the context, and appends the answer.
 fn ask<'d, P: ModuleProvider>(
     alloc: Global,
     context: &mut Context<'d, P>,
@@ -188,7 +188,7 @@ fn ask<'d, P: ModuleProvider>(
     Ok(())
 }
 
-/// Asks a context one by one, and appends the answers.
+/// Makes the calls to a context one by one, and appends the answers.
 fn ask_all<'d, P: ModuleProvider>(
     alloc: Global,
     context: &mut Context<'d, P>,
@@ -201,7 +201,7 @@ fn ask_all<'d, P: ModuleProvider>(
     Ok(())
 }
 
-/// Whether a context answers a list one by one. The answers, and clones of them, are looked at when all are there.
+/// Whether a context answers a list one by one. The answers, and clones of them, are compared after all calls.
 fn is_answered_one_by_one<P: ModuleProvider>(
     alloc: Global,
     context: &mut Context<'_, P>,
@@ -232,8 +232,8 @@ fn answers_sizes<P: ModuleProvider>(
     true
 }
 
-/// Whether a context of parts, whose provider counts, answers a list twice and asks the provider at the first time
-/// alone, and once more when its caches are cleared.
+/// Whether a context from parts answers a list twice and calls its counting provider only the first time, and once more
+/// after its caches are cleared.
 fn is_asked_once(
     alloc: Global,
     data: &ContextPdbData<'_>,
@@ -249,7 +249,7 @@ fn is_asked_once(
     })
 }
 
-/// Whether a context answers a list twice and asks its provider at the first time alone, and once more when its caches
+/// Whether a context answers a list twice and calls its provider only the first time, and once more after its caches
 /// are cleared.
 fn asks_once<P: ModuleProvider>(
     alloc: Global,

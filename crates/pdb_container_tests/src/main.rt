@@ -1,9 +1,8 @@
-//! Reads the PDB files that its words name, and writes the records of each, or why nothing can be answered.
+//! Reads the PDB files in its arguments, and writes the records of each, or why they can't be used.
 //!
-//! What of a file is broken is written too, and whether a session that reads all of the file comes to other records, or
-//! answers by one call another function than by another.
-//! `data/write_files.py` writes the files, by their bytes, and what is wanted of them. A records file in the writer's
-//! own form comes out as it went in.
+//! It also writes the broken parts of a file, and two kinds of errors: a session that reads the whole file has other
+//! records; or two calls find different functions at one address. `data/write_files.py` writes the files byte by byte,
+//! together with the expected output. A records file in the writer's own form comes out unchanged.
 #![tactic(auto)]
 
 use anyhow::Result;
@@ -30,7 +29,7 @@ fn main(rt: HostRuntime) -> Result<()> {
     Ok(())
 }
 
-/// Writes the records of a records file again.
+/// Reads a records file, and writes its records.
 fn write_again<R: Files + Print + AllocGlobal>(rt: &R, name: &str) -> Result<()> {
     println!(rt; "{name}")?;
     let records = read_records(rt.alloc(), &fs::read(rt, name)?)?;
@@ -38,7 +37,7 @@ fn write_again<R: Files + Print + AllocGlobal>(rt: &R, name: &str) -> Result<()>
     Ok(())
 }
 
-/// Writes what a file has.
+/// Writes the content of a file.
 fn show<R: Files + Print + AllocGlobal>(rt: &R, name: &str) -> Result<()> {
     println!(rt; "{name}")?;
     let bytes = fs::read(rt, name)?;
@@ -51,7 +50,7 @@ fn show<R: Files + Print + AllocGlobal>(rt: &R, name: &str) -> Result<()> {
     }
 }
 
-/// Writes why nothing can be answered over a file, or what its records are, and whether a session says something else.
+/// Writes why a file's records can't be used, or the records; and whether a session reads something else.
 fn show_file<R: Print + AllocGlobal>(rt: &R, bytes: &[u8], file: &mut PdbFile) -> Result<()> {
     if file.names_only {
         println!(rt; "names only")?;
@@ -73,7 +72,7 @@ fn show_file<R: Print + AllocGlobal>(rt: &R, bytes: &[u8], file: &mut PdbFile) -
     Ok(())
 }
 
-/// Takes out of the records what is broken, and writes each part that is.
+/// Repairs the records, and writes each broken part.
 fn repair<R: Print + AllocGlobal>(rt: &R, file: &mut PdbFile) -> Result<()> {
     for repair in &repair_records(rt.alloc(), &mut file.records)? {
         println!(rt; "{repair:?}")?;
@@ -81,21 +80,21 @@ fn repair<R: Print + AllocGlobal>(rt: &R, file: &mut PdbFile) -> Result<()> {
     Ok(())
 }
 
-/// What a file has: records, as they are written, or why nothing can be answered over them.
+/// The content of a file: its records as text, or why they can't be used.
 #[derive(PartialEq, Eq, Drop)]
 enum Reading {
     Refused(PdbFileError),
     Records(Vec<u8>),
 }
 
-/// The records as they are written.
+/// The records as text.
 fn records_text(alloc: Global, records: &PDB) -> Result<Vec<u8>> {
     let mut text = Vec::new(alloc);
     write_records(alloc, &mut text, records, &[])?;
     Ok(text)
 }
 
-/// What a session has that read all of a file, range by range. `None` where the file can't be read.
+/// The content of a file by a session that reads all of it, range by range. `None` if the file can't be read.
 fn read_by_session(alloc: Global, bytes: &[u8]) -> Result<Option<Reading>> {
     match PdbSession::open(alloc, bytes, bytes.len()) {
         Ok(mut opened) => match opened.session.read_all() {
@@ -110,8 +109,8 @@ fn read_by_session(alloc: Global, bytes: &[u8]) -> Result<Option<Reading>> {
     }
 }
 
-/// Whether a session that read all of a file answers the same function by `find_function` as by `find_frames`, wherever
-/// a function starts.
+/// Whether `find_function` and `find_frames` of a session that read the whole file find the same function at each
+/// function start.
 fn answers_alike(session: &PdbSession<&[u8]>) -> bool {
     let Ok(data) = session.data() else {
         return false;

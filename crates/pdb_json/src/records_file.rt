@@ -92,7 +92,7 @@ fn counted_records(
 /// assert!(file.module_files()?.join(alloc, ",")?.as_str() == "a.json");
 /// let module_file = Vec::from_slice(alloc, br#"{"error":5}"#)?;
 /// let records = file.read_records(&[module_file])?;
-/// // What is known of the first module failed with 5.
+/// // The records of the first module are an error, 5.
 /// assert!(matches!(records.module_infos[0], Err(StreamError(5))));
 /// ```
 #[derive(Drop)]
@@ -179,7 +179,7 @@ impl RecordsFile {
 ///     "string_table":[],"module_infos":[{"file":"a.json"}]}"#;
 /// let file = Vec::from_slice(alloc, br#"{"error":5}"#)?;
 /// let records = read_records_with(alloc, text, &[file])?;
-/// // What is known of the first module failed with 5.
+/// // The records of the first module are an error, 5.
 /// assert!(matches!(records.module_infos[0], Err(StreamError(5))));
 /// ```
 #[tactic(auto, unfolding(crate::specs::RecordsFile::records_of_files))]

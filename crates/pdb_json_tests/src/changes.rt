@@ -1,22 +1,22 @@
-//! Records files with a change made to their text, and the fault that is wanted.
+//! Records files with a change in their text, and the expected fault.
 
 use crate::reading_texts::is_wanted;
 use pdb_json::read_records;
 use std::alloc::{AllocError, Global};
 
-/// What stands before a text in another one, and what stands after it.
+/// The parts of a text before and after another one that it contains.
 pub(crate) fn around<'t>(text: &'t str, inner: &str) -> Option<(&'t str, &'t str)> {
     text.split_once(inner)
 }
 
-/// What a line says before two ` => `, and what stands after them.
+/// The three parts of a line that two ` => ` separate.
 pub(crate) fn parts(line: &str) -> Option<(&str, &str, &str)> {
     let (old, rest) = around(line, " => ")?;
     let (new, wanted) = around(rest, " => ")?;
     Some((old, new, wanted))
 }
 
-/// Texts, one after the other.
+/// Texts joined.
 pub(crate) fn joined(alloc: Global, texts: &[&str]) -> Result<String, AllocError> {
     let mut joined = String::new(alloc);
     for text in texts {
@@ -25,13 +25,13 @@ pub(crate) fn joined(alloc: Global, texts: &[&str]) -> Result<String, AllocError
     Ok(joined)
 }
 
-/// A text with another one in the place of what stands there.
+/// A text in which `old` is replaced by `new`.
 pub(crate) fn changed(alloc: Global, text: &str, old: &str, new: &str) -> Option<String> {
     let (before, after) = around(text, old)?;
     joined(alloc, &[before, new, after]).ok()
 }
 
-/// Whether a text with the change of a line is answered as is wanted.
+/// Whether a text with the change in a line has the expected answer.
 pub(crate) fn is_answered(alloc: Global, text: &str, line: &str) -> bool {
     let Some((old, new, wanted)) = parts(line) else {
         return false;

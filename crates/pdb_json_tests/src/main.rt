@@ -1,24 +1,24 @@
-//! Reads records files that are made from those beside it, and compares the answers with what is wanted.
+//! Reads changed copies of the records files in its folder, and compares the results with the expected ones.
 //!
-//! `changes.txt`, `module_files.txt`, `names.txt` and `members.txt` have a line `file NAME` for each text that is to
-//! be changed, and below it a line for each case.
+//! `changes.txt`, `module_files.txt`, `names.txt` and `members.txt` have a line `file NAME` for each text to be
+//! changed, and below it a line for each case.
 //!
-//! In `changes.txt` a case is `OLD => NEW => ANSWER`: the text that stands in the file, what is put in its place, and
-//! the answer to the changed file. That is `read`, the text of a fault, `variant N` for the number of the variant of
-//! the one type in it, or of the machine where it has no type, or the records as they are written again.
+//! In `changes.txt` a case is `OLD => NEW => ANSWER`: a text in the file, its replacement, and the result of reading
+//! the changed file. The result is `read`; the text of a fault; `variant N` with the number of the variant of the only
+//! type, or of the machine if there is no type; or the records as they are written again.
 //!
 //! In `module_files.txt` a case is `OLD => NEW => ANSWER => FILES`, with ` & ` between the texts of module files; `-`
-//! is no module file, and `~` one with no bytes.
+//! means no module file, and `~` an empty one.
 //!
-//! In `names.txt` a case is `OLD => NEW => NAMES`: `names:` with each name of a module file after it, and a `;` after
-//! that, or the text of a fault.
+//! In `names.txt` a case is `OLD => NEW => NAMES`: `names:` and the name of each module file with a `;` after it, or
+//! the text of a fault.
 //!
-//! In `members.txt` a line `PATH SORT` has a member or an element, and the sort of value that is wanted there. A line
-//! `SORT VALUE FAULT` of `sorts.txt` says what is put there, or that it is `absent`, and the fault that is answered
-//! after the path, or `read`. An element can't be absent.
+//! In `members.txt` a line `PATH SORT` has a member or an element, and the kind of value that is expected there. A line
+//! `SORT VALUE FAULT` of `sorts.txt` has a value to put there, or `absent` to remove it, and the expected fault after
+//! the path, or `read`. An element can't be absent.
 //!
-//! `small.json` is also cut off at each place. Each line with a case that differs is printed, and then how many cases
-//! there are and how many differ.
+//! `small.json` is also truncated at each byte. Each line with a case that differs is printed, and then the number of
+//! cases and of those that differ.
 #![tactic(auto)]
 
 mod changes;
@@ -35,7 +35,7 @@ use std::rt::Files;
 use std::{fs, io};
 use tally::Tally;
 
-/// What is asked for.
+/// The subject of a test.
 #[derive(Clone, Copy)]
 enum Subject {
     Changes,
@@ -44,7 +44,7 @@ enum Subject {
     Members,
 }
 
-/// All of it, with the file that has the cases.
+/// All subjects, each with its file of cases.
 const SUBJECTS: [(Subject, &str); 4] = [
     (Subject::Changes, "changes.txt"),
     (Subject::ModuleFiles, "module_files.txt"),
@@ -52,10 +52,10 @@ const SUBJECTS: [(Subject, &str); 4] = [
     (Subject::Members, "members.txt"),
 ];
 
-/// The file that is cut off at each place.
+/// The file that is truncated at each byte.
 const CUT: &str = "small.json";
 
-/// The file with what is put in the place of members.
+/// The file with the values that replace members.
 const SORTS: &str = "sorts.txt";
 
 fn main(rt: HostRuntime) -> io::Result<ExitCode> {
@@ -126,7 +126,7 @@ fn over_line<R: Print + AllocGlobal>(
     Ok(tally)
 }
 
-/// What the cases of one line over a text came to.
+/// The tally of the cases in one line over a text.
 fn answered(alloc: Global, subject: Subject, sorts: &str, text: &str, line: &str) -> Tally {
     match subject {
         Subject::Changes => Tally::of_case(changes::is_answered(alloc, text, line)),

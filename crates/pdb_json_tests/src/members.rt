@@ -1,4 +1,4 @@
-//! Files of which a member has another value, or is absent.
+//! Files in which a member has another value, or is absent.
 
 use crate::changes::{around, joined};
 use crate::reading_texts::is_wanted;
@@ -7,10 +7,10 @@ use pdb_json::read_records;
 use serde_json::Value;
 use std::alloc::Global;
 
-/// What stands in the place of a value that a member no longer has.
+/// The word for a removed member, instead of a value.
 const ABSENT: &str = "absent";
 
-/// The path of what holds the value at a path, and its name or its number there.
+/// The path to the parent of the value at a path, and the value's name or number there.
 fn parts(path: &str) -> (&str, &str) {
     path.rsplit_once('/').unwrap_or(("", ""))
 }
@@ -21,7 +21,7 @@ fn is_element(path: &str) -> bool {
     name.parse::<u32>().is_ok()
 }
 
-/// Takes the member at a path out of a file, and answers whether it was there.
+/// Removes the member at a path from a file, and returns whether it was there.
 fn remove(file: &mut Value, path: &str) -> bool {
     let (outer, name) = parts(path);
     match file.pointer_mut(outer) {
@@ -30,7 +30,7 @@ fn remove(file: &mut Value, path: &str) -> bool {
     }
 }
 
-/// Puts another value in the place of the one at a path, and answers whether one was there.
+/// Replaces the value at a path, and returns whether there was one.
 fn replace(file: &mut Value, path: &str, value: Value) -> bool {
     match file.pointer_mut(path) {
         Some(place) => {
@@ -41,7 +41,7 @@ fn replace(file: &mut Value, path: &str, value: Value) -> bool {
     }
 }
 
-/// Changes what is at a path, and answers whether that was done.
+/// Changes the value at a path, and returns whether that was possible.
 fn change(alloc: Global, file: &mut Value, path: &str, new: &str) -> bool {
     if new == ABSENT {
         return remove(file, path);
@@ -58,19 +58,19 @@ fn changed(alloc: Global, text: &str, path: &str, new: &str) -> Option<String> {
     file.to_string(alloc).ok()
 }
 
-/// What stands before the fault after a path, and before `read`.
+/// The text before the fault in a result: the path, or nothing before `read`.
 fn before<'t>(path: &'t str, fault: &str) -> &'t str {
     if fault == "read" { "" } else { path }
 }
 
-/// Whether a file is answered with a fault after a path, or `read`.
+/// Whether reading a file gives this fault after a path, or `read`.
 fn is_read_as(alloc: Global, text: &[u8], path: &str, fault: &str) -> bool {
     joined(alloc, &[before(path, fault), fault]).is_ok_and(|wanted| {
         is_wanted(alloc, &read_records(alloc, text), wanted.as_str())
     })
 }
 
-/// Whether a file with another value at a path is answered with a fault after the path, or `read`.
+/// Whether reading a file with another value at a path gives this fault after the path, or `read`.
 fn is_answered(alloc: Global, text: &str, path: &str, new: &str, fault: &str) -> bool {
     changed(alloc, text, path, new).is_some_and(|text| {
         is_read_as(alloc, text.as_bytes(), path, fault)
@@ -86,7 +86,7 @@ fn over_case(alloc: Global, text: &str, path: &str, case: &str) -> Tally {
     Tally::of_case(is_answered(alloc, text, path, new, fault))
 }
 
-/// Makes each change of a member of this sort.
+/// Makes each change of a member of this kind.
 fn over_cases(alloc: Global, sorts: &str, text: &str, path: &str, wanted: &str) -> Tally {
     let mut tally = Tally::NOTHING;
     for line in sorts.lines() {

@@ -1,4 +1,4 @@
-//! Files with module files, and the names of these.
+//! Records files with module files, and the names of these.
 
 use crate::changes::{around, changed, parts};
 use crate::reading_texts::{is_refused_as, is_wanted};
@@ -6,7 +6,7 @@ use pdb_json::{RecordFault, RecordsFile, module_files, read_records_with};
 use pdb_records::PDB;
 use std::alloc::{AllocError, Global};
 
-/// The bytes of the module files that a part of a line holds.
+/// The bytes of the module files in a part of a line.
 fn files_of(alloc: Global, part: &str) -> Result<Vec<Vec<u8>>, AllocError> {
     let mut files = Vec::new(alloc);
     if part == "-" {
@@ -24,18 +24,18 @@ fn read_once(alloc: Global, text: &[u8], files: &[Vec<u8>]) -> Result<PDB, Recor
     RecordsFile::from_slice(alloc, text)?.read_records(files)
 }
 
-/// Whether a file with module files is answered as is wanted, each time that it is read.
+/// Whether reading a file with module files gives the expected result each time.
 fn is_read_as(alloc: Global, text: &[u8], files: &[Vec<u8>], wanted: &str) -> bool {
     is_wanted(alloc, &read_records_with(alloc, text, files), wanted)
         && is_wanted(alloc, &read_once(alloc, text, files), wanted)
 }
 
-/// Whether a file with the module files of a part of a line is answered as is wanted.
+/// Whether reading a file with the module files in a part of a line gives the expected result.
 fn is_read_with(alloc: Global, text: &[u8], files: &str, wanted: &str) -> bool {
     files_of(alloc, files).is_ok_and(|files| is_read_as(alloc, text, &files, wanted))
 }
 
-/// Whether a text with the change of a line is answered as is wanted, with the module files of the line.
+/// Whether a text with the change in a line, and with its module files, has the expected result.
 pub(crate) fn is_answered(alloc: Global, text: &str, line: &str) -> bool {
     let Some((old, new, rest)) = parts(line) else {
         return false;
@@ -58,7 +58,7 @@ fn line_of(alloc: Global, names: &[String]) -> Result<String, AllocError> {
     Ok(line)
 }
 
-/// Whether the names of module files, or the refusal of them, are what is wanted.
+/// Whether the names of module files, or the error instead, are the expected ones.
 fn are_wanted(alloc: Global, names: &Result<Vec<String>, RecordFault>, wanted: &str) -> bool {
     match names {
         Ok(names) => line_of(alloc, names).is_ok_and(|line| line.as_str() == wanted),
@@ -71,13 +71,13 @@ fn named_once(alloc: Global, text: &[u8]) -> Result<Vec<String>, RecordFault> {
     RecordsFile::from_slice(alloc, text)?.module_files()
 }
 
-/// Whether a file is answered with the names of module files that are wanted, each time that it is read.
+/// Whether a file has the expected names of module files, each time that it is read.
 fn is_named(alloc: Global, text: &[u8], wanted: &str) -> bool {
     are_wanted(alloc, &module_files(alloc, text), wanted)
         && are_wanted(alloc, &named_once(alloc, text), wanted)
 }
 
-/// Whether a text with the change of a line is answered with the names of module files that are wanted.
+/// Whether a text with the change in a line has the expected names of module files.
 pub(crate) fn are_named(alloc: Global, text: &str, line: &str) -> bool {
     let Some((old, new, wanted)) = parts(line) else {
         return false;

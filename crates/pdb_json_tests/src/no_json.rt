@@ -1,4 +1,4 @@
-//! Texts that are no JSON, and want of memory.
+//! Texts that are no JSON, and allocation failures.
 
 use crate::reading_texts::{is_refused_as, is_wanted};
 use crate::tally::Tally;
@@ -10,7 +10,7 @@ fn is_no_json(alloc: Global, bytes: &[u8]) -> bool {
     is_wanted(alloc, &read_records(alloc, bytes), "not a JSON text")
 }
 
-/// Cuts a text off at each place, and asks for bytes that are no text.
+/// Truncates a text at each byte, and tries bytes that are no text.
 pub(crate) fn over_texts(alloc: Global, text: &[u8]) -> Tally {
     let mut tally = Tally::of_case(is_no_json(alloc, b"{\"more\":\"\xff\"}"));
     for end in 0..text.len() {

@@ -1,4 +1,4 @@
-//! What reading a records file answers, as text: records, or a fault with its path.
+//! The results of reading a records file, as text: records, or a fault with its path.
 
 use crate::changes::around;
 use pdb_export::write_records;
@@ -6,7 +6,7 @@ use pdb_json::RecordFault;
 use pdb_records::{Item, PDB, TypeData, TypeIndex};
 use std::alloc::Global;
 
-/// Whether the answer to a file is the one that is wanted.
+/// Whether the result for a file is the expected one.
 pub(crate) fn is_wanted(alloc: Global, answer: &Result<PDB, RecordFault>, wanted: &str) -> bool {
     match answer {
         Ok(records) => wanted == "read" || are_read_as(alloc, records, wanted),
@@ -21,7 +21,7 @@ pub(crate) fn is_refused_as(alloc: Global, fault: &RecordFault, wanted: &str) ->
         .is_ok_and(|text| text.as_str() == wanted)
 }
 
-/// Whether records have the variant that is wanted, or are written again as is wanted.
+/// Whether records have the expected variant, or are written as expected.
 fn are_read_as(alloc: Global, records: &PDB, wanted: &str) -> bool {
     match around(wanted, "variant ") {
         Some((_, number)) => number
@@ -31,7 +31,7 @@ fn are_read_as(alloc: Global, records: &PDB, wanted: &str) -> bool {
     }
 }
 
-/// The number of the variant of the one type in records, or of the machine where they have no type.
+/// The number of the variant of the only type in records, or of the machine if there is no type.
 fn variant_of(records: &PDB) -> Option<u8> {
     let Ok(types) = &records.type_information else {
         return None;
@@ -51,7 +51,7 @@ fn machine_variant(records: &PDB) -> Option<u8> {
     }
 }
 
-/// The number of the variant that a type is of: of a primitive, a class or a pointer.
+/// The number of the variant of a type: of a primitive, a class or a pointer.
 fn type_variant(item: &Item<TypeIndex, TypeData>) -> Option<u8> {
     match &item.content {
         Ok(TypeData::Primitive(primitive)) => Some(primitive.kind as u8),

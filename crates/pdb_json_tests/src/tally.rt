@@ -1,6 +1,6 @@
-//! Counts the cases, and the answers that are other than wanted.
+//! Counts cases, and those whose result differs from the expected one.
 
-/// How many cases there were, and how many answers are other ones than are wanted.
+/// The number of cases, and of those whose result differs from the expected one.
 #[derive(Clone, Copy)]
 pub(crate) struct Tally {
     pub(crate) asked: u64,
@@ -14,7 +14,7 @@ impl Tally {
         differ: 0,
     };
 
-    /// One case, and whether its answer is as wanted.
+    /// The tally of one case, by whether its result is the expected one.
     pub(crate) fn of_case(is_wanted: bool) -> Tally {
         Tally {
             asked: 1,
@@ -22,7 +22,7 @@ impl Tally {
         }
     }
 
-    /// These cases and others.
+    /// The sum of two tallies.
     pub(crate) fn and(self, others: Tally) -> Tally {
         Tally {
             asked: self.asked.saturating_add(others.asked),

@@ -1,23 +1,23 @@
-//! The lines of `cases.txt`: a command line, what it writes, and its status.
+//! The cases in `cases.txt`: a command line, its output, and its exit status.
 
-/// A command line of the program, and what is wanted of it.
+/// A command line of the program, and what is expected of it.
 #[derive(Clone, Copy)]
 pub(crate) struct Case<'t> {
     /// The words of its command line.
     pub command: &'t str,
-    /// What it is to write.
+    /// The expected output.
     pub wanted: &'t str,
-    /// The status that it is to end with.
+    /// The expected exit status.
     pub status: u64,
 }
 
-/// What stands before a command line.
+/// The text before a command line.
 const PROMPT: &str = "$ ";
 
-/// What stands before a status.
+/// The text before an exit status.
 const STATUS: &str = "status ";
 
-/// The first case of a text, and what follows it.
+/// The first case in a text, and the rest of the text.
 pub(crate) fn next_case(text: &str) -> Option<(Case<'_>, &str)> {
     let (_, case) = text.split_once(PROMPT)?;
     let (command, rest) = case.split_once("\n")?;

@@ -1,9 +1,9 @@
-//! Runs the report over the records files beside it, and compares what it writes with what is wanted.
+//! Runs the report over the records files in its folder, and compares the output with the expected one.
 //!
-//! `cases.txt` has a line `$ pdb_report WORD ..` for each case, then the lines that are wanted on standard
-//! output and on standard error, and a line `status N`. A case that ends well is run again into writers that
-//! refuse: one for each room that is too small for its text, and one that doesn't hand on what it took. Reports are
-//! written into such writers by `report` itself too.
+//! `cases.txt` has for each case a line `$ pdb_report WORD ..`, the expected lines on standard output and on standard
+//! error, and a line `status N`. A case that succeeds is run again with writers that refuse: one for each amount of
+//! room that is too small for its text, and one that can't be flushed. `report` itself also writes reports into such
+//! writers.
 #![tactic(auto)]
 
 mod cases;
@@ -33,7 +33,7 @@ fn main(rt: HostRuntime) -> io::Result<ExitCode> {
     })
 }
 
-/// Whether reports end as they should in writers that refuse. It is printed where they don't.
+/// Whether reports end as they should with writers that refuse. Prints it if they don't.
 fn are_reported<R: Files + Print + AllocGlobal>(rt: &R) -> io::Result<bool> {
     let file = fs::read(rt, NO_SECTIONS)?;
     if reports::end_as_they_should(rt.alloc(), &file) {
@@ -43,7 +43,7 @@ fn are_reported<R: Files + Print + AllocGlobal>(rt: &R) -> io::Result<bool> {
     Ok(false)
 }
 
-/// Compares each case, prints those that differ and how many there are, and counts those that differ.
+/// Runs each case, prints those that differ and their number, and returns that number.
 fn compare<R: Files + Print + AllocGlobal>(rt: &R, text: &str) -> io::Result<u64> {
     let mut rest = text;
     let mut cases: u64 = 0;
@@ -62,7 +62,7 @@ fn compare<R: Files + Print + AllocGlobal>(rt: &R, text: &str) -> io::Result<u64
     Ok(differing)
 }
 
-/// Whether a case writes what is wanted. One that differs is printed.
+/// Whether a case has the expected output. Prints one that differs.
 fn is_as_wanted<R: Files + Print + AllocGlobal>(rt: &R, case: &Case<'_>) -> io::Result<bool> {
     let (text, status) = outcome(rt, case.command)?;
     if text.as_str() == case.wanted && status == case.status {
@@ -73,7 +73,7 @@ fn is_as_wanted<R: Files + Print + AllocGlobal>(rt: &R, case: &Case<'_>) -> io::
     Ok(false)
 }
 
-/// Whether a case ends as it should in writers that refuse. One that differs is printed.
+/// Whether a case ends as it should with writers that refuse. Prints one that differs.
 fn is_refused_as_wanted<R: Files + Print + AllocGlobal>(
     rt: &R,
     case: &Case<'_>,
@@ -85,7 +85,7 @@ fn is_refused_as_wanted<R: Files + Print + AllocGlobal>(
     Ok(false)
 }
 
-/// What a command line writes on standard output and then on standard error, and its status.
+/// The output of a command line, on standard output and then on standard error, and its exit status.
 fn outcome<R: Files + AllocGlobal>(rt: &R, command: &str) -> io::Result<(String, u64)> {
     let alloc = rt.alloc();
     let words = words_of(alloc, command)?;

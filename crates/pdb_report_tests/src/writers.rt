@@ -1,4 +1,4 @@
-//! Writers that refuse: with too little room, or what they took isn't handed on.
+//! Writers that refuse: because they have too little room, or when they are flushed.
 
 use crate::cases::Case;
 use crate::words_of;
@@ -7,16 +7,16 @@ use std::alloc::Global;
 use std::io;
 use std::rt::Files;
 
-/// The longest text that is written into writers with ever more room.
+/// The longest text that is written into writers with increasing room.
 const LONGEST: usize = 256;
 
-/// Takes some bytes, so many at a time, and then refuses.
+/// A writer that takes some bytes, a limited number at a time, and then refuses.
 #[derive(Drop)]
 pub(crate) struct Narrow {
     held: Vec<u8>,
     room: usize,
     at_once: usize,
-    /// Whether it refuses to hand on what it took.
+    /// Whether it refuses to be flushed.
     holds_back: bool,
     /// How often it refused bytes.
     refusals: usize,
@@ -55,9 +55,9 @@ impl io::Write for Narrow {
     }
 }
 
-/// Whether a case that ends well, and has a text that isn't long, ends as it should in writers that refuse: with
-/// each room that is too small, and where what was written can't be handed on. A writer that takes a byte at a
-/// time takes the whole text.
+/// Whether a case that succeeds with a short text ends as it should with writers that refuse: with each amount of room
+/// that is too small, and with a writer that can't be flushed. A writer that takes one byte at a time takes the whole
+/// text.
 pub(crate) fn end_as_they_should<R: Files + AllocGlobal>(
     rt: &R,
     case: &Case<'_>,
@@ -72,7 +72,7 @@ pub(crate) fn end_as_they_should<R: Files + AllocGlobal>(
     )
 }
 
-/// Whether a case is refused by each writer with too little room.
+/// Whether a case fails with each writer that has too little room.
 fn is_refused_at_each_room<R: Files + AllocGlobal>(rt: &R, case: &Case<'_>) -> io::Result<bool> {
     for room in 0..case.wanted.len() {
         if !is_refused_at(rt, case, room)? {
@@ -82,8 +82,8 @@ fn is_refused_at_each_room<R: Files + AllocGlobal>(rt: &R, case: &Case<'_>) -> i
     Ok(true)
 }
 
-/// Whether a case, run into a writer with too little room, fills that, hands on nothing more, and says that it can't
-/// write.
+/// Whether a case with too little room in its writer fills that room, writes nothing after it, and reports that it
+/// can't write.
 fn is_refused_at<R: Files + AllocGlobal>(rt: &R, case: &Case<'_>, room: usize) -> io::Result<bool> {
     let mut out = Out::new(Narrow::new(rt.alloc(), room));
     let refused = is_refused(rt, case.command, &mut out)?;
@@ -95,7 +95,7 @@ fn is_refused_at<R: Files + AllocGlobal>(rt: &R, case: &Case<'_>, room: usize) -
     )
 }
 
-/// Whether a case says that it can't write where its writer doesn't hand on what it took.
+/// Whether a case reports that it can't write if its writer can't be flushed.
 fn is_refused_at_flush<R: Files + AllocGlobal>(rt: &R, case: &Case<'_>) -> io::Result<bool> {
     let mut writer = Narrow::new(rt.alloc(), usize::MAX);
     writer.holds_back = true;
@@ -104,7 +104,7 @@ fn is_refused_at_flush<R: Files + AllocGlobal>(rt: &R, case: &Case<'_>) -> io::R
     Ok(refused && case.wanted.as_bytes() == out.into_inner().held.as_slice())
 }
 
-/// Whether a case, run into a writer that takes a byte at a time, writes its whole text.
+/// Whether a case writes its whole text into a writer that takes one byte at a time.
 fn is_taken_bytewise<R: Files + AllocGlobal>(rt: &R, case: &Case<'_>) -> io::Result<bool> {
     let mut writer = Narrow::new(rt.alloc(), usize::MAX);
     writer.at_once = 1;
@@ -113,7 +113,7 @@ fn is_taken_bytewise<R: Files + AllocGlobal>(rt: &R, case: &Case<'_>) -> io::Res
     Ok(!refused && case.wanted.as_bytes() == out.into_inner().held.as_slice())
 }
 
-/// Whether a case says that it can't write.
+/// Whether a case reports that it can't write.
 fn is_refused<R: Files + AllocGlobal>(
     rt: &R,
     command: &str,

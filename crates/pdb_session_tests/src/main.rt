@@ -1,4 +1,4 @@
-//! Opens a PDB file as a session, makes a list of calls, and prints what each is answered.
+//! Opens a PDB file as a session, makes a list of calls, and prints the answers.
 #![tactic(auto)]
 
 use anyhow::{Result, bail};
@@ -15,7 +15,7 @@ fn main(rt: HostRuntime) -> Result<()> {
     print_answers(&rt, &bytes)
 }
 
-/// Prints what a list of calls is answered over all of a PDB file.
+/// Prints the answers to a list of calls over a whole PDB file.
 fn print_answers<R: Print + AllocGlobal>(rt: &R, pdb: &[u8]) -> Result<()> {
     let calls = [
         Call::FindFrames(0x1136),

@@ -23,7 +23,7 @@ abbrev pub begins_by : ℕ → List FunctionRecords → Bool
 begins_by address [] = false
 begins_by address (records ∷ functions) = not (nat_lt address records.start)
 
--- the last function that begins at or before an address has a known end
+-- the last function that begins at or before an address, if there is one, has a known end
 abbrev pub NoneOpen : ℕ → List FunctionRecords → Type 0
 NoneOpen address [] = Unit {0}
 NoneOpen address (records ∷ functions) =

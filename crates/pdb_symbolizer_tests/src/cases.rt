@@ -2,7 +2,7 @@
 
 use std::alloc::{AllocError, Global};
 
-/// What a run is made with.
+/// The input of a run.
 #[derive(Drop)]
 pub(crate) struct Case {
     pub variable: Variable,
@@ -10,22 +10,22 @@ pub(crate) struct Case {
     pub input: String,
 }
 
-/// An environment variable. Without a name it is none.
+/// An environment variable; with an empty name there is none.
 #[derive(Drop)]
 pub(crate) struct Variable {
     pub name: String,
     pub text: String,
 }
 
-/// What stands between the name of the variable and its text, and after the text.
+/// The text between a variable's name and its value.
 const VARIABLE: &str = "=\"";
 
 const VARIABLE_END: &str = "\" ";
 
-/// What stands between the words and the input of a case.
+/// The text between the words and the input of a case.
 const INPUT: &str = " < ";
 
-/// What stands between two lines of the input.
+/// The text between two lines of the input.
 const LINE_END: &str = "|";
 
 /// The case of a line.

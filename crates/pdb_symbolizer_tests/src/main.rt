@@ -1,10 +1,10 @@
-//! Runs what `pdb_symbolizer` does over the lines of `cases.txt`, and prints what each run writes.
+//! Runs the lines of `cases.txt` as `pdb_symbolizer` would, and prints the output of each run.
 //!
-//! A line of `cases.txt` has the words of a command line, in front of them as `NAME="TEXT"` an environment variable, if
-//! any, and after ` < ` the lines of standard input, with `|` between them; or it is `cat FILE`, of a file that a run
-//! wrote. Printed are the line after `$ `, what the run writes
-//! on standard output and, each line after `standard error: `, on standard error, and a line `status N`.
-//! `write_cases.py` beside the cases says where the wanted texts come from.
+//! A line of `cases.txt` has an optional environment variable as `NAME="TEXT"`, the words of a command line, and after
+//! ` < ` the lines of standard input with `|` between them. Or it is `cat FILE`, for a file that a run wrote. The
+//! program prints the line after `$ `, the run's standard output, its standard error with `standard error: ` before
+//! each line, and a line `status N`. `write_cases.py` in the folder of the cases says where the expected texts come
+//! from.
 #![tactic(auto)]
 
 mod cases;
@@ -20,7 +20,7 @@ use terminal::Terminal;
 /// The file with the cases.
 const CASES: &str = "cases.txt";
 
-/// What stands before the name of a file that is printed.
+/// The word before the name of a file to print.
 const CAT: &str = "cat ";
 
 fn main(rt: HostRuntime) -> anyhow::Result<()> {
@@ -35,7 +35,7 @@ fn main(rt: HostRuntime) -> anyhow::Result<()> {
     Ok(())
 }
 
-/// Runs a case, and prints what it writes and its status.
+/// Runs a case, and prints its output and its exit status.
 fn run_case<R: Files + Print + Clock + AllocGlobal>(rt: &R, case: &Case) -> anyhow::Result<()> {
     let terminal = Terminal {
         rt,

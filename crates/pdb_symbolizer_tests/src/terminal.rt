@@ -9,7 +9,7 @@ use std::io::{self, BufRead, Lines};
 use std::rt::{Clock, Env, Files};
 use std::time::Duration;
 
-/// What stands before a line of standard error.
+/// The text before a line of standard error.
 const STANDARD_ERROR: &str = "standard error: ";
 
 /// A runtime, with a text as its standard input and an environment variable.

@@ -90,14 +90,15 @@ AdvancesClosing w p old failed new failed_then =
     Goes w 0 (Then p ∷ Closing ∷ plans w old.steps) (stage_run old failed) (plans w new.steps)
     (stage_run new failed_then)
 
--- the steps of the second stage have the place of this plan, with at least `fewer` fewer steps; nothing else changed
+-- the steps of the second stage replace this plan: they lead to the same end, with at least `fewer` fewer steps, and
+-- nothing else changed
 pub record Stands (w : PrintInputs) (fewer : ℕ) (p : Plan) (old new : Stage) : Type 0 where
   pub goes : (before : Run) → Goes w fewer (Then p ∷ plans w old.steps) before (plans w new.steps) before
   pub opened : open_in new.steps ≡ open_in old.steps
   pub text : new.text ≡ old.text
   pub failure : new.failure ≡ old.failure
 
--- the steps of the second stage have the place of this plan for the current text, with no more steps
+-- the steps of the second stage replace this plan for the current text, with no more steps
 pub record StandsHere (w : PrintInputs) (p : Plan) (old new : Stage) : Type 0 where
   pub goes : (before : Run) → before.text ≡ old.text
       → Goes w 0 (Then p ∷ plans w old.steps) before (plans w new.steps) before

@@ -31,8 +31,8 @@ sigil pointer.RValueReference = codes "&&"
 abbrev pub space_before_sigil : TypeFormatterFlags → List ℕ
 space_before_sigil flags = if with_space_before_pointer flags then codes " " else []
 
--- the text before a sign: `const` if the target is constant, and the space if it is wanted, unless the opening or a
--- sign is just before it
+-- the text before a sign: `const` if the target is constant, and the space if it is wanted. Without `const`, there is
+-- no text right after the opening or another sign
 abbrev pub before_sigil : TypeFormatterFlags → Predecessor → Bool → List ℕ
 before_sigil flags Opening true = codes "const" ++ space_before_sigil flags
 before_sigil flags other true = codes " const" ++ space_before_sigil flags

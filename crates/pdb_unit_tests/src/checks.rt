@@ -5,7 +5,7 @@
 pub(crate) struct Checks {
     pub(crate) made: u64,
     pub(crate) failed: u64,
-    /// What the first one that failed is of, or nothing.
+    /// The name of the first check that failed, or an empty text.
     pub(crate) first: &'static str,
 }
 
@@ -17,7 +17,7 @@ impl Checks {
         first: "",
     };
 
-    /// One more check: what it is of, and whether it holds.
+    /// Adds a check: its name, and whether it holds.
     pub(crate) fn and(self, name: &'static str, holds: bool) -> Checks {
         self.with(Checks {
             made: 1,
@@ -26,12 +26,12 @@ impl Checks {
         })
     }
 
-    /// One more check, which doesn't hold where it could not be made.
+    /// Adds a check, which fails if it could not be made.
     pub(crate) fn and_tried<E: Drop>(self, name: &'static str, holds: Result<bool, E>) -> Checks {
         self.and(name, matches!(holds, Ok(true)))
     }
 
-    /// These checks and others.
+    /// Adds other checks.
     pub(crate) fn with(self, others: Checks) -> Checks {
         Checks {
             made: self.made.saturating_add(others.made),

@@ -17,13 +17,13 @@ use std::alloc::{AllocError, Global};
 /// A contribution: its section, its offset, its size and its module.
 type Given = (u16, u32, u32, usize);
 
-/// The merged contributions, and where those that count start.
+/// The merged contributions, and the starts of those that count.
 type Merged = (
     Vec<ModuleSectionContribution>,
     Vec<PdbInternalSectionOffset>,
 );
 
-/// Contributions in no order. Two of one module have a gap between them, one lies in no code, and one is empty.
+/// Contributions in no order. Two of one module have a gap between them, one is outside of code, and one is empty.
 static GIVEN: [Given; 6] = [
     (1, 0x40, 0x10, 1),
     (1, 0, 0x10, 0),
@@ -33,7 +33,7 @@ static GIVEN: [Given; 6] = [
     (1, 0xffff_fff0, 0x0f, 4),
 ];
 
-/// Two sections of code, and one between them that holds none.
+/// Two sections of code, and one without code between them.
 static SECTIONS: [ImageSectionHeader; 3] = [
     ImageSectionHeader {
         virtual_address: 0x1000,
@@ -72,14 +72,14 @@ fn run(
     }
 }
 
-/// What [`GIVEN`] is merged into, by section, start, end and module.
+/// The merged contributions of [`GIVEN`], sorted by section, start, end and module.
 static COUNTED: [Given; 3] = [
     (1, 0, 0x30, 0),
     (1, 0x40, 0x50, 1),
     (1, 0xffff_fff0, 0xffff_ffff, 4),
 ];
 
-/// The debug information that holds these contributions, with this fault after them.
+/// Debug information with these contributions, and with this fault after them.
 fn debug_information(
     alloc: Global,
     given: &[Given],
@@ -103,12 +103,12 @@ fn debug_information(
     })
 }
 
-/// What these contributions are merged into, and where those that count start.
+/// The merged contributions of these, and the starts of those that count.
 fn merged(alloc: Global, given: &[Given]) -> Result<Merged> {
     compute_section_contributions(alloc, &debug_information(alloc, given, None)?, &SECTIONS)
 }
 
-/// Whether [`GIVEN`] is merged into those that count.
+/// Whether [`GIVEN`] is merged into [`COUNTED`].
 fn is_merged(alloc: Global) -> Result<bool> {
     let starts = [
         section_offset(1, 0x40),
@@ -120,7 +120,7 @@ fn is_merged(alloc: Global) -> Result<bool> {
     Ok(are(&merged, &COUNTED) && section_offsets.as_slice() == starts.as_slice())
 }
 
-/// Whether merged contributions are those, of which the third number is the end.
+/// Whether merged contributions are the expected ones, in which the third number is the end.
 fn are(merged: &[ModuleSectionContribution], wanted: &[Given]) -> bool {
     if merged.len() != wanted.len() {
         return false;
@@ -133,9 +133,9 @@ fn are(merged: &[ModuleSectionContribution], wanted: &[Given]) -> bool {
     true
 }
 
-/// Contributions in reading order, and what they are merged into, by section, start, end and module: one
-/// that ends below the one ahead of it, modules that take turns, the same in reverse, one that starts below
-/// the one ahead of it, and a module that comes back in a section where nothing stands between.
+/// Contributions in reading order, and their merged ones, sorted by section, start, end and module: one that ends below
+/// the one before it, modules that alternate, the same in reverse, one that starts below the one before it, and a
+/// module that comes back in a section with nothing between.
 static MERGED: [(&[Given], &[Given]); 5] = [
     (&[(1, 0, 0x20, 0), (1, 0, 0x10, 0)], &[(1, 0, 0x20, 0)]),
     (
@@ -153,7 +153,7 @@ static MERGED: [(&[Given], &[Given]); 5] = [
     ),
 ];
 
-/// Whether contributions are refused for an end in the first section that is too large, of this module.
+/// Whether contributions of this module are refused for an end in the first section that is too large.
 fn is_too_large(alloc: Global, given: &[Given], module: usize) -> bool {
     matches!(
         merged(alloc, given),
@@ -169,7 +169,7 @@ fn is_overlap(alloc: Global, given: &[Given]) -> bool {
     )
 }
 
-/// Whether contributions of which two overlap are refused for the fault after them.
+/// Whether contributions with an overlap are refused for the fault after them.
 fn is_fault_first(alloc: Global) -> Result<bool> {
     let fault = StreamError(9);
     let given = [(1, 0, 0x20, 0), (1, 0x10, 0x20, 1)];
@@ -178,7 +178,7 @@ fn is_fault_first(alloc: Global) -> Result<bool> {
     Ok(merged.is_err_and(|error| is_fault(&error, fault)))
 }
 
-/// Three thousand contributions, one after the other, each of another module.
+/// Three thousand adjacent contributions, each of another module.
 fn side_by_side(alloc: Global) -> Result<Vec<Given>, AllocError> {
     let mut given = Vec::new(alloc);
     for at in 0..3000u32 {
@@ -187,26 +187,26 @@ fn side_by_side(alloc: Global) -> Result<Vec<Given>, AllocError> {
     Ok(given)
 }
 
-/// The contribution over an offset of a section.
+/// The contribution at an offset of a section.
 fn over(table: &ContributionTable, section: u16, offset: u32) -> Option<ModuleSectionContribution> {
     table.contribution_over(section_offset(section, offset), &mut Probes::new())
 }
 
-/// Whether a table of those contributions finds the ones over some section offsets.
+/// Whether a table of three thousand contributions finds those at some section offsets.
 fn is_table_of_thousands(table: &ContributionTable) -> bool {
     over(table, 1, 0) == Some(run(1, 0, 0x10, 0))
         && over(table, 1, 0x7fff) == Some(run(1, 0x7ff0, 0x8000, 0x7ff))
         && over(table, 2, 0).is_none()
 }
 
-/// Whether those contributions all start something, and are found in their table.
+/// Whether all three thousand contributions start a function, and are found in their table.
 fn finds_thousands(alloc: Global) -> Result<bool> {
     let (counted, starts) = merged(alloc, &side_by_side(alloc)?)?;
     let table = ContributionTable::new(alloc, counted)?;
     Ok(starts.len() == 3000 && is_table_of_thousands(&table))
 }
 
-/// Three thousand public symbols, one after the other.
+/// Three thousand consecutive public symbols.
 fn publics(alloc: Global) -> Result<Vec<Symbol>, AllocError> {
     let mut symbols = Vec::new(alloc);
     for at in 0..3000u32 {
@@ -221,7 +221,7 @@ fn publics(alloc: Global) -> Result<Vec<Symbol>, AllocError> {
     Ok(symbols)
 }
 
-/// Whether a function is found over, at and after a section offset.
+/// Whether functions are found that contain, start at, and follow a section offset.
 fn finds_functions(functions: &GlobalFunctionTable<'_>) -> bool {
     let probes = &mut Probes::new();
     let over = functions.function_over(section_offset(1, 0x1f), &mut 0, probes);
@@ -249,7 +249,7 @@ fn finds_thousands_of_functions(alloc: Global) -> Result<bool> {
     Ok(are_thousands(&functions))
 }
 
-/// Whether all of [`MERGED`] are merged so.
+/// Whether all contributions of [`MERGED`] are merged as expected.
 fn take_turns(alloc: Global) -> Result<bool> {
     for (given, wanted) in &MERGED {
         if !are(&merged(alloc, given)?.0, wanted) {

@@ -22,7 +22,7 @@ pub(crate) fn says(alloc: Global, error: &Error, wanted: &str) -> bool {
         .is_ok_and(|text| text.as_str() == wanted)
 }
 
-/// The checks of texts of errors that no look-up answers in the runs of other crates.
+/// The checks of error texts that no lookup returns in the runs of other crates.
 pub(crate) fn checks(alloc: Global) -> Checks {
     let unordered = Error::UnorderedSectionContributions(1, 2);
     let ranges = Error::ProcedureInlineRangesUnsuccessful;

@@ -6,7 +6,7 @@ use pdb_records::StreamError;
 use pdb_types::{FailedParts, Part};
 use std::alloc::{AllocError, Global};
 
-/// Whether a part that is met broken answers this, and has failed then.
+/// Whether a part that is found broken returns this error, and has failed then.
 fn fails_with(
     alloc: Global,
     failed: &mut FailedParts,
@@ -18,7 +18,7 @@ fn fails_with(
     Ok(text.as_str() == wanted && failed.has_failed(part))
 }
 
-/// Whether a part that has not failed answers its own error once, and from then on that it failed.
+/// Whether a part that has not failed returns its own error once, and from then on that it failed.
 fn fails_once(
     alloc: Global,
     failed: &mut FailedParts,
@@ -33,7 +33,7 @@ fn fails_once(
     )
 }
 
-/// Whether a part has failed from when it was met broken on, and not when none was.
+/// Whether a part has failed after it was found broken, and not if no part was.
 fn is_added(failed: &mut FailedParts, part: Part) -> bool {
     failed.add_met(None).is_ok()
         && !failed.has_failed(part)
@@ -41,7 +41,7 @@ fn is_added(failed: &mut FailedParts, part: Part) -> bool {
         && failed.has_failed(part)
 }
 
-/// Whether two parts that are met broken answer their own errors once, and one that is added has failed.
+/// Whether two parts that are found broken return their own errors once, and an added part has failed.
 fn answers_own_error_once(alloc: Global) -> Result<bool, AllocError> {
     let mut failed = FailedParts::new(alloc);
     let imports = "Getting the module imports was unsuccessful";

@@ -20,19 +20,19 @@ const C: u32 = 0x1002;
 /// An id that is not among the inlinees.
 const UNLISTED: u32 = 0x1003;
 
-/// The kind of a symbol that closes others.
+/// The kind of an end symbol.
 const S_END: u16 = 6;
 
-/// A range: its start and end, its depth, the id of what was called, its file and its line.
+/// A range: its start and end, its depth, the id of the inlined function, its file and its line.
 type Range = (u64, u64, usize, u32, Option<FileIndex>, Option<u32>);
 
-/// Rows of a site that has another inside, the fault after them, and the ranges that come of both sites.
+/// Rows of a site with another one inside, the fault after them, and the ranges of both sites.
 type Gap<'a> = (&'a [Row], Option<StreamError>, &'a [Range]);
 
 /// The rows of most sites.
 const ONE_ROW: &[Row] = &[(0x20, Some(0x10), 0, 7)];
 
-/// A row of the same code, of another line.
+/// A row of the same code, with another line.
 const LATER_LINE: &[Row] = &[(0x20, Some(0x10), 0, 9)];
 
 /// A row that ends after the greatest offset, and one without a length.
@@ -41,7 +41,7 @@ const LONG_ROWS: &[Row] = &[(0xffff_fff0, Some(0x20), 1, 3), (0x50, None, 1, 4)]
 /// A row of other code.
 const EARLIER_ROW: &[Row] = &[(0x18, Some(4), 2, 5)];
 
-/// A symbol that closes others.
+/// An end symbol.
 const OTHER: Shown<'static> = (S_END, Content::Other);
 
 /// The ids A, B and C.
@@ -53,8 +53,8 @@ fn inlinees(alloc: Global) -> Result<BTreeSet<IdIndex>> {
     Ok(inlinees)
 }
 
-/// The ranges of the procedure whose symbol stands first, which the one at a position closes, with A, B and C among
-/// the inlinees.
+/// The ranges of the procedure with the first symbol, whose end symbol is at a position, with A, B and C among the
+/// inlinees.
 fn ranges_in(
     alloc: Global,
     symbols: &[Shown<'_>],
@@ -86,7 +86,7 @@ fn are_ranges(ranges: &[InlineRange], wanted: &[Range]) -> bool {
             .all(|(range, wanted)| is_range(range, wanted))
 }
 
-/// Whether the procedure whose symbol stands first, which the last symbol closes, has these ranges.
+/// Whether the procedure with the first symbol, whose end symbol is the last one, has these ranges.
 fn has_ranges(
     alloc: Global,
     symbols: &[Shown<'_>],
@@ -100,7 +100,7 @@ fn has_ranges(
 /// The range of the inner site of two.
 const INNER: Range = (0x20, 0x30, 1, B, Some(FileIndex(0)), Some(7));
 
-/// How the gaps of a caller are filled.
+/// Gaps of a caller, and the ranges that fill them.
 static GAPS: [Gap<'static>; 4] = [
     (&[], None, &[(0x20, 0x30, 0, A, None, None), INNER]),
     (
@@ -129,7 +129,7 @@ static GAPS: [Gap<'static>; 4] = [
     ),
 ];
 
-/// Whether gaps are filled so.
+/// Whether gaps are filled as expected.
 fn are_filled(alloc: Global, gap: &Gap<'_>) -> bool {
     let &(rows, fault, wanted) = gap;
     let symbols = [
@@ -143,7 +143,7 @@ fn are_filled(alloc: Global, gap: &Gap<'_>) -> bool {
     has_ranges(alloc, &symbols, None, wanted)
 }
 
-/// A procedure with a site that has another inside, and a site after it.
+/// A procedure with a site that has another one inside, and a site after it.
 static INSIDE_AND_BEHIND: [Shown<'static>; 8] = [
     (S_GPROC32, Content::Procedure(7)),
     (S_INLINESITE, Content::Site(A, 4, &[], None)),
@@ -188,7 +188,7 @@ static ROWS_SIDE_BY_SIDE: [Range; 3] = [
     ),
 ];
 
-/// A procedure with symbols whose kind does not go with what they hold.
+/// A procedure with symbols whose kind doesn't match their content.
 static MIXED_KINDS: [Shown<'static>; 10] = [
     (S_GPROC32, Content::Procedure(9)),
     (S_THUNK32, Content::Site(A, 8, ONE_ROW, None)),
@@ -211,14 +211,14 @@ static ROWS_OF_MIXED_KINDS: [Range; 2] = [
 /// A fault after the symbols.
 const FAULT: StreamError = StreamError(4);
 
-/// A procedure that the symbols before the fault close, with another inside.
+/// A procedure that ends before the fault, with another one inside.
 static CLOSED: [Shown<'static>; 3] = [
     (S_GPROC32, Content::Procedure(2)),
     (S_GPROC32, Content::Procedure(1)),
     OTHER,
 ];
 
-/// A procedure that would be closed after the fault, with another inside.
+/// A procedure that would end after the fault, with another one inside.
 static UNCLOSED: [Shown<'static>; 3] = [
     (S_GPROC32, Content::Procedure(10)),
     (S_GPROC32, Content::Procedure(9)),
@@ -233,7 +233,7 @@ fn is_unclosed_refused(alloc: Global) -> bool {
 /// How many sites are nested.
 const DEPTH: usize = 1000;
 
-/// The position of the symbol that closes the procedure of nested sites.
+/// The position of the end symbol of the procedure with nested sites.
 const CLOSING: usize = 2 * DEPTH + 1;
 
 /// The symbol at a position of a procedure with many sites, each directly inside the one before.
@@ -249,7 +249,7 @@ fn nested_symbol(at: usize) -> Shown<'static> {
     }
 }
 
-/// All symbols of that procedure. The last site alone has a row.
+/// All symbols of the procedure with nested sites. Only the last site has a row.
 fn nested_sites(alloc: Global) -> Result<Vec<Shown<'static>>, AllocError> {
     let mut symbols = Vec::new(alloc);
     for at in 0..CLOSING + 1 {

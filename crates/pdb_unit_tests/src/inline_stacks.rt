@@ -9,7 +9,7 @@ use std::alloc::{AllocError, Global};
 /// A range: its start and end, and its depth.
 type Range = (u64, u64, usize);
 
-/// An offset, and the positions of the ranges over it.
+/// An offset, and the positions of the ranges that contain it.
 type Over<'a> = (u64, &'a [usize]);
 
 /// Ranges of several depths, in no order.
@@ -22,7 +22,7 @@ static SEVERAL: [Range; 6] = [
     (0x2c, 0x2c, 0),
 ];
 
-/// What is over offsets in and around those.
+/// The ranges at offsets in and around [`SEVERAL`].
 static OVER_SEVERAL: [Over<'static>; 11] = [
     (0, &[]),
     (0xf, &[]),
@@ -40,7 +40,7 @@ static OVER_SEVERAL: [Over<'static>; 11] = [
 /// Ranges of one depth, two of which start together.
 static EQUAL_STARTS: [Range; 3] = [(0x10, 0x20, 0), (0x10, 0x30, 0), (0x8, 0x40, 0)];
 
-/// What is over offsets in and after those.
+/// The ranges at offsets in and after [`EQUAL_STARTS`].
 static OVER_EQUAL_STARTS: [Over<'static>; 4] = [
     (0x8, &[2]),
     (0x10, &[0]),
@@ -51,13 +51,13 @@ static OVER_EQUAL_STARTS: [Over<'static>; 4] = [
 /// A range, and in it two that are equal.
 static EQUAL: [Range; 3] = [(0x10, 0x40, 0), (0x18, 0x30, 1), (0x18, 0x30, 1)];
 
-/// What is over offsets where there are no ranges.
+/// Offsets without ranges.
 static OVER_NOTHING: [Over<'static>; 3] = [(0, &[]), (1, &[]), (u64::MAX, &[])];
 
 /// Offsets in and around nested ranges.
 static OFFSETS: [u64; 8] = [0, 1, 500, 999, 1000, 1001, 1999, 2000];
 
-/// Ranges, each of a call of its position.
+/// Ranges; the id of each inlined function is the position of its range.
 fn ranges_of(alloc: Global, shown: &[Range]) -> Result<Vec<InlineRange>, AllocError> {
     let mut ranges = Vec::new(alloc);
     let mut position: u32 = 0;
@@ -75,7 +75,7 @@ fn ranges_of(alloc: Global, shown: &[Range]) -> Result<Vec<InlineRange>, AllocEr
     Ok(ranges)
 }
 
-/// The position of a range, by what is called in it.
+/// The position of a range, by the id of its inlined function.
 fn position(range: &InlineRange) -> usize {
     range.inlinee.0 as usize
 }
@@ -98,44 +98,44 @@ fn are_alike(ranges: &[InlineRange], others: &[InlineRange]) -> bool {
             .all(|(range, other)| position(range) == position(other))
 }
 
-/// Whether the scan of ranges has these positions over an offset.
+/// Whether the scan of ranges finds these positions at an offset.
 fn scan_finds(alloc: Global, ranges: &[InlineRange], offset: u64, wanted: &[usize]) -> bool {
     inline_stack(alloc, ranges, offset).is_ok_and(|scanned| have_positions(&scanned, wanted))
 }
 
-/// Whether a table has these positions over an offset, after few probes.
+/// Whether a table finds these positions at an offset, with few probes.
 fn finds(table: &StackTable, offset: u64, wanted: &[usize]) -> bool {
     let mut probes = Probes::new();
     let digits = usize::BITS.saturating_sub(table.len().leading_zeros());
     table.find(offset, &mut probes) == wanted && probes.count() <= u64::from(digits)
 }
 
-/// Whether the table of ranges is small, and has these positions over an offset.
+/// Whether the table of ranges is small, and finds these positions at an offset.
 fn table_finds(alloc: Global, ranges: &[InlineRange], offset: u64, wanted: &[usize]) -> bool {
     StackTable::new(alloc, ranges).is_ok_and(|table| {
         table.len() <= ranges.len().saturating_mul(4) && finds(&table, offset, wanted)
     })
 }
 
-/// The ranges over an offset, as the stacks of ranges have them.
+/// The ranges at an offset, by the stacks of ranges.
 fn stack(alloc: Global, shown: &[Range], offset: u64) -> Result<Vec<InlineRange>, AllocError> {
     let stacks = ProcedureStacks::new(alloc, ranges_of(alloc, shown)?)?;
     stacks.stack(alloc, offset, &mut Probes::new())
 }
 
-/// Whether the stacks of ranges have these positions over an offset.
+/// Whether the stacks of ranges find these positions at an offset.
 fn stacks_find(alloc: Global, shown: &[Range], offset: u64, wanted: &[usize]) -> bool {
     stack(alloc, shown, offset).is_ok_and(|found| have_positions(&found, wanted))
 }
 
-/// Whether the scan and the table of ranges have these positions over an offset.
+/// Whether the scan and the table of ranges find these positions at an offset.
 fn scan_and_table_find(alloc: Global, shown: &[Range], offset: u64, wanted: &[usize]) -> bool {
     ranges_of(alloc, shown).is_ok_and(|ranges| {
         scan_finds(alloc, &ranges, offset, wanted) && table_finds(alloc, &ranges, offset, wanted)
     })
 }
 
-/// Whether the scan, the table and the stacks of ranges have what is over all these offsets.
+/// Whether the scan, the table and the stacks find the expected ranges at all these offsets.
 fn all_find(alloc: Global, shown: &[Range], over: &[Over<'_>]) -> bool {
     over.iter().all(|&(offset, wanted)| {
         scan_and_table_find(alloc, shown, offset, wanted)
@@ -162,7 +162,7 @@ fn nested_ranges(alloc: Global) -> Result<Vec<InlineRange>, AllocError> {
     ranges_of(alloc, &shown)
 }
 
-/// Whether stacks and the scan of ranges have the same positions over an offset.
+/// Whether stacks and the scan of ranges find the same positions at an offset.
 fn answer_alike(
     alloc: Global,
     stacks: &ProcedureStacks,
@@ -174,7 +174,7 @@ fn answer_alike(
     Ok(are_alike(&found, &scanned))
 }
 
-/// Whether stacks and the scan of ranges have the same positions over all these offsets.
+/// Whether stacks and the scan of ranges find the same positions at all these offsets.
 fn all_answer_alike(
     alloc: Global,
     stacks: &ProcedureStacks,
@@ -194,7 +194,7 @@ fn has_first_of_equal(alloc: Global) -> bool {
     ranges_of_one_id(alloc, &EQUAL).is_ok_and(|ranges| table_finds(alloc, &ranges, 0x20, &[0, 1]))
 }
 
-/// Whether stacks of nested ranges have the positions that the scan has, and all of them in the middle.
+/// Whether stacks of nested ranges find the same positions as the scan, and all of them in the middle.
 fn answers_nested(alloc: Global) -> Result<bool, AllocError> {
     let ranges = nested_ranges(alloc)?;
     let stacks = ProcedureStacks::new(alloc, nested_ranges(alloc)?)?;

@@ -18,10 +18,10 @@ static CLASSES: [(u32, &str, u64); 5] = [
     (0x1000, "S", 40),
 ];
 
-/// An index, a name, and the size of what has that name after the index.
+/// An index, a name, and the size of the type with that name after the index.
 type Size<'a> = (u32, &'a str, Option<u64>);
 
-/// Sizes, one for each way in which the look-up can end.
+/// Sizes, one for each way in which the lookup can end.
 static SIZES: [Size<'static>; 4] = [
     (0x1000, "S", Some(12)),
     (0x1003, "S", Some(20)),
@@ -47,7 +47,7 @@ fn ids(alloc: Global, fault: Option<StreamError>) -> Result<IdInformation, Alloc
     })
 }
 
-/// Whether an index is that of a string.
+/// Whether an index leads to a string.
 fn is_string(map: &mut ItemMap<'_, IdIndex, IdData>, index: IdIndex) -> bool {
     map.try_get(index)
         .is_ok_and(|item| matches!(&item.content, Ok(IdData::String(_))))
@@ -75,7 +75,7 @@ fn answers(
     Ok(is_string(map, IdIndex(7)) && is_missing(alloc, map, IdIndex(8), wanted)?)
 }
 
-/// Whether the list with this fault answers so, and does it again.
+/// Whether the list with this fault has these answers, also the second time.
 fn list_answers(
     alloc: Global,
     fault: Option<StreamError>,
@@ -86,7 +86,7 @@ fn list_answers(
     Ok(answers(alloc, &mut map, wanted)? && answers(alloc, &mut map, wanted)?)
 }
 
-/// Whether the public look-up answers this size for a name after an index.
+/// Whether the public lookup finds this size for a name after an index.
 fn has_size(alloc: Global, types: &TypeInformation, size: &Size<'_>) -> Result<bool> {
     let &(index, name, wanted) = size;
     let name = raw_string(alloc, name)?;
@@ -96,7 +96,7 @@ fn has_size(alloc: Global, types: &TypeInformation, size: &Size<'_>) -> Result<b
     Ok(found == wanted)
 }
 
-/// A class or, of size 0, a forward reference to one.
+/// A class, or with size 0 a forward reference to one.
 fn class(
     alloc: Global,
     index: u32,

@@ -1,7 +1,7 @@
-//! Runs of records and of the parts that contexts are made of, over records that are made here.
+//! Checks records and the parts of contexts, over records that are made here.
 //!
-//! Each part has checks of its own. What the first one of a part is of that doesn't hold is printed, and then how many
-//! checks there are and how many failed.
+//! Each part has checks of its own. The program prints the first failed check of each part, and then the numbers of
+//! checks and of failures.
 #![tactic(auto)]
 
 mod checks;

@@ -1,4 +1,4 @@
-//! Modules to check with: with symbols, and nothing else.
+//! Modules for checks, with nothing but symbols.
 
 use pdb_errors::Error;
 use pdb_records::{ModuleInfo, Reading, StreamError, Symbol};
@@ -26,7 +26,7 @@ pub(crate) fn module_of(
     }
 }
 
-/// Whether an error is this fault of a stream.
+/// Whether an error has this fault of a stream.
 pub(crate) fn is_fault(error: &Error, fault: StreamError) -> bool {
     matches!(error, Error::PdbError(pdb_records::Error::Stream(found)) if *found == fault)
 }

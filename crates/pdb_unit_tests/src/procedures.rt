@@ -18,7 +18,7 @@ use std::alloc::{AllocError, Global};
 /// A procedure: its offset, its length, its name, the positions of its symbol and its end, and its type.
 type Shown<'a> = (u32, u32, &'a [u8], usize, usize, u32);
 
-/// Procedures of which one is empty and one starts where another does, with code apart and a thunk.
+/// Procedures, one of them empty and one with the start of another, with separated code and a thunk.
 static CODE: [Code<'static>; 6] = [
     Code::Procedure(S_GPROC32, 0x40, 0x10, b"f"),
     Code::Separated(0x80, 0x40),
@@ -28,7 +28,7 @@ static CODE: [Code<'static>; 6] = [
     Code::Thunk(0x10),
 ];
 
-/// The procedures that those are.
+/// The procedures of [`CODE`].
 static PROCEDURES: [Shown<'static>; 3] = [
     (0x10, 6, b"t", 5, 6, 0),
     (0x40, 0x10, b"f", 0, 9, 7),
@@ -40,18 +40,18 @@ fn section_offset(offset: u32) -> PdbInternalSectionOffset {
     PdbInternalSectionOffset { section: 1, offset }
 }
 
-/// A piece of code, as its symbol shows it.
+/// The code of a symbol.
 #[derive(Clone, Copy)]
 enum Code<'a> {
     /// A procedure: its kind, its offset, its length and its name.
     Procedure(u16, u32, u32, &'a [u8]),
-    /// Code apart from its body: its offset, and that of the procedure that it belongs to.
+    /// Separated code: its offset, and that of its procedure.
     Separated(u32, u32),
     /// A thunk: its offset.
     Thunk(u32),
 }
 
-/// The symbol that shows a piece of code.
+/// The symbol of a piece of code.
 fn symbol(alloc: Global, code: Code<'_>) -> Result<Symbol, AllocError> {
     let (raw_kind, content) = match code {
         Code::Procedure(raw_kind, offset, len, name) => (
@@ -89,7 +89,7 @@ fn symbol(alloc: Global, code: Code<'_>) -> Result<Symbol, AllocError> {
     })
 }
 
-/// The symbols that show pieces of code.
+/// The symbols of pieces of code.
 fn symbols(alloc: Global, code: &[Code<'_>]) -> Result<Vec<Symbol>, AllocError> {
     let mut symbols = Vec::new(alloc);
     for piece in code {
@@ -136,7 +136,7 @@ fn is_refused(alloc: Global) -> bool {
     BasicModuleInfo::try_from_module_info(alloc, &info).is_err_and(|error| is_fault(&error, fault))
 }
 
-/// Three thousand procedures, the last in the code first, each with the start of the next one in it.
+/// Three thousand procedures in descending order, each of which contains the start of the next one in the code.
 fn descending(alloc: Global) -> Result<Vec<Code<'static>>, AllocError> {
     let mut code = Vec::new(alloc);
     for at in 0..3000u32 {
@@ -145,7 +145,7 @@ fn descending(alloc: Global) -> Result<Vec<Code<'static>>, AllocError> {
     Ok(code)
 }
 
-/// What a global function that starts at an offset is in the contribution of module 5 from 0x10 on.
+/// The match of a global function that starts at an offset, in the contribution of module 5 from 0x10 on.
 fn found_from(offset: u32) -> Option<FunctionMatch<'static>> {
     let contribution = ModuleSectionContribution {
         section_index: 1,
@@ -160,7 +160,7 @@ fn found_from(offset: u32) -> Option<FunctionMatch<'static>> {
     global_function_in(contribution, Some(function), 0)
 }
 
-/// Whether a module has those procedures, with one over a section offset and none over another.
+/// Whether a module has three thousand procedures, with one at a section offset and none at another.
 fn finds_thousands(alloc: Global) -> Result<bool> {
     let info = module_of(alloc, symbols(alloc, &descending(alloc)?)?, None);
     let basic = BasicModuleInfo::try_from_module_info(alloc, &info)?;

@@ -4,10 +4,10 @@ use crate::checks::Checks;
 use pdb_tables::RangeSet;
 use std::alloc::{AllocError, Global};
 
-/// A range: its start, and its end after it.
+/// A range: its start, and its exclusive end.
 type Range = (u64, u64);
 
-/// Ranges of which some overlap, some touch and some are empty, and at last one of the greatest numbers.
+/// Ranges: some overlap, some touch, some are empty, and the last one has the greatest numbers.
 static ADDED: [Range; 9] = [
     (10, 20),
     (30, 40),
@@ -23,16 +23,16 @@ static ADDED: [Range; 9] = [
 /// Rows in no order.
 static ROWS: [Range; 6] = [(80, 90), (40, 60), (30, 40), (9, 9), (45, 50), (1, 3)];
 
-/// What those are joined into.
+/// The runs of [`ROWS`].
 static RUNS: [Range; 3] = [(1, 3), (30, 60), (80, 90)];
 
-/// Ranges that are taken into a set, and given back.
+/// Ranges that are added to a set, and removed again.
 static INNER: [Range; 4] = [(5, 10), (20, 30), (32, 34), (50, 60)];
 
-/// What is left of the set then.
+/// The rest of the set after the removal.
 static REST: [Range; 5] = [(0, 5), (10, 20), (30, 32), (34, 40), (60, 70)];
 
-/// The set after ranges were added one after the other.
+/// The set after ranges were added in order.
 fn added_in_turn(alloc: Global, ranges: &[Range]) -> Result<RangeSet, AllocError> {
     let mut set = RangeSet::empty(alloc);
     for &(start, end) in ranges {
@@ -41,12 +41,12 @@ fn added_in_turn(alloc: Global, ranges: &[Range]) -> Result<RangeSet, AllocError
     Ok(set)
 }
 
-/// Whether ranges that are added one after the other are joined into these.
+/// Whether ranges that are added in order become these runs.
 fn join(alloc: Global, ranges: &[Range], runs: &[Range]) -> bool {
     added_in_turn(alloc, ranges).is_ok_and(|set| set.runs() == runs)
 }
 
-/// Whether a set lacks some of another, and has all of it and more once that is put in.
+/// Whether a set lacks numbers of another one, and has all of them and more after the union.
 fn takes_in(set: &mut RangeSet, inner: &RangeSet) -> bool {
     !set.is_superset(inner)
         && set.union(inner).is_ok()
@@ -55,12 +55,12 @@ fn takes_in(set: &mut RangeSet, inner: &RangeSet) -> bool {
         && !inner.is_superset(set)
 }
 
-/// Whether a set loses just what another has.
+/// Whether a set loses exactly the numbers of another one.
 fn gives_back(set: &mut RangeSet, inner: &RangeSet) -> bool {
     set.minus(inner).is_ok() && set.runs() == REST.as_slice()
 }
 
-/// Three thousand ranges of two numbers from this number on, each four after the one before.
+/// Three thousand ranges of two numbers, from `first` on at intervals of four.
 fn thousands_from(alloc: Global, first: u64) -> Result<RangeSet, AllocError> {
     let mut set = RangeSet::empty(alloc);
     for at in 0..3000u64 {
@@ -70,7 +70,7 @@ fn thousands_from(alloc: Global, first: u64) -> Result<RangeSet, AllocError> {
     Ok(set)
 }
 
-/// Whether these are three thousand ranges of one number, each four after the one before.
+/// Whether these are three thousand ranges of one number, at intervals of four.
 fn are_thousands_of_one(runs: &[Range]) -> bool {
     let mut start: u64 = 0;
     for &run in runs {
@@ -95,7 +95,7 @@ fn are_rows_joined(alloc: Global) -> bool {
     RangeSet::of_rows(alloc, &ROWS).is_ok_and(|set| set.runs() == RUNS.as_slice())
 }
 
-/// Whether a set is joined with parts of it, parted from them and compared with them.
+/// Whether union, difference and comparison of a set with parts of it are right.
 fn is_compared(alloc: Global) -> Result<bool, AllocError> {
     let mut set = RangeSet::of_rows(alloc, &[(0, 40), (60, 70)])?;
     let inner = RangeSet::of_rows(alloc, &INNER)?;
@@ -106,8 +106,8 @@ fn is_compared(alloc: Global) -> Result<bool, AllocError> {
     )
 }
 
-/// Whether a set holds thousands of runs, takes in ranges that overlap them, and has one number of each left when
-/// these are taken out.
+/// Whether a set can have thousands of runs, merges ranges that overlap them, and has one number of each run left after
+/// these ranges are removed.
 fn holds_thousands(alloc: Global) -> Result<bool, AllocError> {
     let mut set = thousands_from(alloc, 0)?;
     let others = thousands_from(alloc, 1)?;

@@ -13,7 +13,7 @@ fn section_offset(section: u16, offset: u32) -> PdbInternalSectionOffset {
     PdbInternalSectionOffset { section, offset }
 }
 
-/// Whether a section offset is that of an address, and the address that of the section offset.
+/// Whether an address and a section offset are converted into each other.
 fn lies_at(map: &AddressMap, address: Rva, section_offset: PdbInternalSectionOffset) -> bool {
     address.to_internal_offset(map) == Some(section_offset)
         && section_offset.to_rva(map) == Some(address)
@@ -26,7 +26,7 @@ fn answers_section_offsets(map: &AddressMap) -> bool {
         && lies_at(map, Rva(0xffff_ffff), section_offset(2, 255))
 }
 
-/// Whether nothing is answered for what isn't in the sections.
+/// Whether nothing is found outside the sections.
 fn answers_nothing_else(map: &AddressMap) -> bool {
     Rva(0x1010).to_internal_offset(map) == None
         && section_offset(0, 0).to_rva(map) == None
@@ -34,7 +34,7 @@ fn answers_nothing_else(map: &AddressMap) -> bool {
         && section_offset(2, 256).to_rva(map) == None
 }
 
-/// Where two sections lie. The second would end past the greatest address.
+/// The address ranges of two sections. The second would end past the greatest address.
 const SECTIONS: [AddressRange; 2] = [
     AddressRange {
         virtual_address: 0x1000,
@@ -46,7 +46,7 @@ const SECTIONS: [AddressRange; 2] = [
     },
 ];
 
-/// Where the entries of a line program start.
+/// The section offset of the entries of a line program.
 const SECTION_OFFSET: PdbInternalSectionOffset = PdbInternalSectionOffset {
     section: 1,
     offset: 16,
@@ -85,7 +85,7 @@ fn takes_the_first_entry(program: &LineProgram) -> bool {
         .is_some_and(|rows| rows.items.len() == 1)
 }
 
-/// Whether the file is answered, and no other.
+/// Whether the file is found, and no other.
 fn answers_the_file(program: &LineProgram) -> bool {
     let file = program.get_file_info(FileIndex(0));
     file.is_some_and(|file| file.name == StringRef(5))
@@ -102,14 +102,14 @@ fn string_table(alloc: Global) -> Result<StringTable, AllocError> {
     Ok(StringTable { strings })
 }
 
-/// Whether the first text for a reference is answered, and none for another reference.
+/// Whether the first text for a reference is found, and none for another reference.
 fn answers_the_first_text(table: &StringTable) -> bool {
     let text = table.get(StringRef(5));
     text.is_some_and(|text| text.0.as_slice() == b"first".as_slice())
         && table.get(StringRef(4)).is_none()
 }
 
-/// What a module takes from two others: two indices each.
+/// The imports of a module from two others: two indices each.
 fn imports(alloc: Global) -> Result<CrossModuleImports, AllocError> {
     let mut modules = Vec::new(alloc);
     for key in [8u32, 9] {
@@ -121,14 +121,14 @@ fn imports(alloc: Global) -> Result<CrossModuleImports, AllocError> {
     Ok(CrossModuleImports { modules })
 }
 
-/// Whether an index is that of an index in another module.
+/// Whether an index refers to this index of another module.
 fn is_imported(imports: &CrossModuleImports, index: u32, module: StringRef, local: u32) -> bool {
     imports
         .resolve_import(index)
         .is_ok_and(|found| found == (module, local))
 }
 
-/// Whether an index is refused as that of no import.
+/// Whether an index is refused because it is no import.
 fn is_not_imported(imports: &CrossModuleImports, index: u32) -> bool {
     matches!(
         imports.resolve_import(index),
@@ -136,7 +136,7 @@ fn is_not_imported(imports: &CrossModuleImports, index: u32) -> bool {
     )
 }
 
-/// Whether the imports are answered, and others are refused.
+/// Whether the imports are found, and others are refused.
 fn answers_the_imports(imports: &CrossModuleImports) -> bool {
     is_imported(imports, 0x8010_0001, StringRef(9), 71)
         && is_imported(imports, 0x8000_0000, StringRef(8), 70)
@@ -145,14 +145,14 @@ fn answers_the_imports(imports: &CrossModuleImports) -> bool {
         && is_not_imported(imports, 0x8008_0000)
 }
 
-/// Whether a name is shown with a sign in place of the byte that is no text.
+/// Whether a name is shown with a replacement character for the byte that isn't UTF-8.
 fn shows_the_name(alloc: Global) -> Result<bool, AllocError> {
     let name = RawString([0x66, 0xff].to_vec(alloc)?);
     let text = name.to_string_lossy(alloc)?;
     Ok(text.as_bytes() == [0x66, 0xef, 0xbf, 0xbd].as_slice())
 }
 
-/// Whether section offsets of addresses are answered, and nothing else.
+/// Whether section offsets of addresses are found, and nothing else.
 fn maps_addresses(alloc: Global) -> Result<bool, AllocError> {
     let sections = SECTIONS.to_vec(alloc)?;
     let map = AddressMap { sections };
@@ -165,7 +165,7 @@ fn finds_lines(alloc: Global) -> Result<bool, AllocError> {
     Ok(takes_the_first_entry(&program) && answers_the_file(&program))
 }
 
-/// Whether the first export of an index is answered, and none of another index.
+/// Whether the first export of an index is found, and none of another index.
 fn finds_exports(alloc: Global) -> Result<bool, AllocError> {
     let exports = [(7u32, 0x1003u32), (7, 0x1004)].to_vec(alloc)?;
     let exports = CrossModuleExports { exports };

@@ -20,7 +20,7 @@ fn has_numbers_below(set: &BTreeSet<TypeIndex>, end: u32) -> bool {
     wanted == end
 }
 
-/// Whether a level that is entered with nothing takes in two numbers.
+/// Whether a level that is entered without a number accepts two numbers.
 fn holds_empty_level(seen: &mut Seen<'_>) -> bool {
     let mut level = seen.new_level();
     level.insert(TypeIndex(4)).is_ok()
@@ -28,18 +28,18 @@ fn holds_empty_level(seen: &mut Seen<'_>) -> bool {
         && has_numbers_below(level.set, 6)
 }
 
-/// Whether the level that is entered with the number 3 is as before when another level was inside.
+/// Whether the level that is entered with the number 3 is unchanged after another level inside it.
 fn is_inner_level(level: &mut Seen<'_>) -> bool {
     has_numbers_below(level.set, 4) && holds_empty_level(level) && has_numbers_below(level.set, 4)
 }
 
-/// Whether no level is entered with a number, and none is taken out by that.
+/// Whether entering a level with a number is refused, and removes no number.
 fn refuses_level(seen: &mut Seen<'_>, index: TypeIndex) -> bool {
     seen.insert_one(index).is_err()
 }
 
-/// Whether the level that is entered with the number 1 takes in another number, and is as before when two levels were
-/// inside.
+/// Whether the level that is entered with the number 1 accepts another number, and is unchanged after two levels inside
+/// it.
 fn is_outer_level(level: &mut Seen<'_>) -> bool {
     level.insert(TypeIndex(0)).is_err()
         && refuses_level(level, TypeIndex(0))
@@ -53,7 +53,7 @@ fn is_outer_level(level: &mut Seen<'_>) -> bool {
         && has_numbers_below(level.set, 3)
 }
 
-/// Whether a set has what it had when levels were entered, before it is lent back.
+/// Whether a set has the same numbers after the levels that borrow it as before.
 fn holds_levels(alloc: Global, set: &mut BTreeSet<TypeIndex>) -> bool {
     let mut seen = Seen::new(alloc, set);
     seen.insert_one(TypeIndex(1))
@@ -67,13 +67,13 @@ fn is_refused(alloc: Global, seen: &mut Seen<'_>, index: TypeIndex, wanted: &str
         .is_err_and(|error| says(alloc, &Error::from(error), wanted))
 }
 
-/// Whether levels take out of a set what they put in.
+/// Whether levels remove from a set what they inserted.
 fn take_out_what_they_put_in(alloc: Global) -> bool {
     let mut set = BTreeSet::new(alloc);
     set.insert(TypeIndex(0)).is_ok() && holds_levels(alloc, &mut set) && has_numbers_below(&set, 1)
 }
 
-/// Whether an index that is put in is circular from then on.
+/// Whether an inserted index is circular from then on.
 fn is_open_circular(alloc: Global) -> bool {
     let mut set = BTreeSet::new(alloc);
     let mut seen = Seen::new(alloc, &mut set);

@@ -10,7 +10,7 @@ type Painted = (u64, u64, u64);
 /// A number, and its value in a table.
 type Valued = (u64, Option<u64>);
 
-/// Segments of which the second lies in the first, two are empty, and the last lies over the others.
+/// Segments: the second is inside the first, two are empty, and the last covers the others.
 static FEW: [Painted; 5] = [
     (0, 10, 1),
     (3, 5, 2),
@@ -19,7 +19,7 @@ static FEW: [Painted; 5] = [
     (2, u64::MAX, 4),
 ];
 
-/// Values where those but the last were painted.
+/// Values after all of [`FEW`] but the last were painted.
 static BEFORE_LAST: [Valued; 6] = [
     (2, Some(1)),
     (4, Some(2)),
@@ -29,7 +29,7 @@ static BEFORE_LAST: [Valued; 6] = [
     (u64::MAX, None),
 ];
 
-/// Segments of which many lie over others, and two are empty.
+/// Segments: many cover others, and two are empty.
 static MANY: [Painted; 9] = [
     (10, 40, 1),
     (20, 30, 2),
@@ -42,7 +42,7 @@ static MANY: [Painted; 9] = [
     (22, 23, 9),
 ];
 
-/// Values where those were painted.
+/// Values after [`MANY`] were painted.
 static OF_MANY: [Valued; 5] = [
     (11, Some(6)),
     (22, Some(9)),
@@ -59,7 +59,7 @@ fn has_values(table: &Segments<u64>, values: &[Valued]) -> bool {
         .all(|&(x, value)| table.find(x, &mut probes) == value)
 }
 
-/// The table after segments were painted one after the other.
+/// The table after segments were painted in order.
 fn painted_in_turn(alloc: Global, painted: &[Painted]) -> Result<Segments<u64>, AllocError> {
     let mut table = Segments::new(alloc);
     for &(start, end, value) in painted {
@@ -68,22 +68,22 @@ fn painted_in_turn(alloc: Global, painted: &[Painted]) -> Result<Segments<u64>, 
     Ok(table)
 }
 
-/// Whether segments that are painted one after the other make a table of so many, with these values.
+/// Whether segments that are painted in order make a table of `len` entries with these values.
 fn paint(alloc: Global, painted: &[Painted], len: usize, values: &[Valued]) -> bool {
     painted_in_turn(alloc, painted).is_ok_and(|table| {
         table.len() == len && has_values(&table, values)
     })
 }
 
-/// Whether a table without segments has no value for a number, and looks at nothing.
+/// Whether a table without segments has no value for a number, and needs no probe.
 fn looks_at_nothing(table: &Segments<u8>) -> bool {
     let mut probes = Probes::new();
     probes.tick();
     table.find(7, &mut probes).is_none() && probes.count() == 1
 }
 
-/// How many entries of a list a binary search for the first one that starts above x looks at, where the entry at a
-/// place is the range from 4 times the place on.
+/// The number of entries that a binary search probes for the first one that starts above x. The entry at a position is
+/// the range from 4 times the position on.
 fn looks(entries: usize, x: u64) -> u64 {
     let (mut from, mut to) = (0, entries);
     for looks in 0..64u64 {
@@ -100,7 +100,7 @@ fn looks(entries: usize, x: u64) -> u64 {
     64
 }
 
-/// A thousand ranges of two numbers, each four after the one before and with its position as the value.
+/// A thousand ranges of two numbers at intervals of four, each with its position as the value.
 fn spaced(alloc: Global) -> Result<Segments<u64>, AllocError> {
     let mut table = Segments::new(alloc);
     for at in 0..1000u64 {
@@ -146,7 +146,7 @@ fn are_alike(table: &Segments<u64>, other: &Segments<u64>, end: u64) -> bool {
     (0..end).all(|x| table.find(x, &mut probes) == other.find(x, &mut probes))
 }
 
-/// Whether a table is small, and as if [`MANY`] were painted one after the other.
+/// Whether a table is small, and the same as if [`MANY`] were painted in order.
 fn is_painted_in_turn(alloc: Global, table: &Segments<u64>) -> bool {
     painted_in_turn(alloc, &MANY).is_ok_and(|in_turn| {
         table.len() <= 18 && are_alike(table, &in_turn, 64)
@@ -173,7 +173,7 @@ fn are_nested(table: &Segments<u64>) -> bool {
         && probes.count() <= 4 * 13
 }
 
-/// Whether a table counts what it looks at, from nothing on.
+/// Whether a table counts its probes, from 0 on.
 fn counts_probes(alloc: Global) -> bool {
     let mut probes = Probes::new();
     let none = probes.count();

@@ -1,17 +1,17 @@
-//! The laws of the crates below, each called once.
+//! Calls each law of the crates below once.
 
 use pdb_functions::lookup_laws as functions;
 use pdb_inline::inline_range_laws as inline;
 use pdb_tables::table_laws as ranges;
 
-/// States each law once.
+/// Calls each law once.
 pub(crate) fn are_stated() {
     of_functions();
     of_inline_ranges();
     of_ranges();
 }
 
-/// States those on contributions, procedures and global functions.
+/// Calls the laws on contributions, procedures and global functions.
 fn of_functions() {
     functions::merged_contributions_are_apart();
     functions::merged_contributions_hold_all();
@@ -24,7 +24,7 @@ fn of_functions() {
     functions::pick_covers_with_greatest_start();
 }
 
-/// States those on inline ranges and stacks of them.
+/// Calls the laws on inline ranges and their stacks.
 fn of_inline_ranges() {
     inline::ranges_cover_deeper_sites();
     inline::stacks_have_all_levels();
@@ -34,7 +34,7 @@ fn of_inline_ranges() {
     inline::added_ranges_are_of_maximal_runs();
 }
 
-/// States those on sets of ranges and on segments.
+/// Calls the laws on sets of ranges and on segments.
 fn of_ranges() {
     ranges::last_painted_gives_the_value::<u64>();
     ranges::runs_are_determined();

@@ -1,4 +1,4 @@
-//! Symbols to check with: procedures and sites with rows.
+//! Symbols for checks: procedures and sites with rows.
 
 use pdb_records::{
     FileIndex, IdIndex, InlineRow, InlineSiteSymbol, PdbInternalSectionOffset, ProcedureSymbol,
@@ -9,17 +9,17 @@ use std::alloc::{AllocError, Global};
 /// A row: its offset, its length, and the numbers of its file and line.
 pub(crate) type Row = (u32, Option<u32>, u32, u32);
 
-/// A symbol: its kind and what it holds.
+/// A symbol: its kind and its content.
 pub(crate) type Shown<'a> = (u16, Content<'a>);
 
-/// What a symbol holds.
+/// The content of a symbol.
 #[derive(Clone, Copy)]
 pub(crate) enum Content<'a> {
-    /// Nothing that is shown.
+    /// Other content.
     Other,
-    /// A procedure: the position of the symbol that closes it.
+    /// A procedure: the position of its end symbol.
     Procedure(usize),
-    /// A site: its id, the position of the symbol that closes it, its rows, and the fault after them.
+    /// A site: its id, the position of its end symbol, its rows, and the fault after them.
     Site(u32, usize, &'a [Row], Option<StreamError>),
 }
 
@@ -41,7 +41,7 @@ fn rows_of(
     Ok(Reading { items, fault })
 }
 
-/// What a symbol holds, as a record.
+/// The content of a symbol, as a record.
 fn content_of(alloc: Global, content: Content<'_>) -> Result<SymbolData, AllocError> {
     Ok(match content {
         Content::Other => SymbolData::Other,

@@ -66,7 +66,8 @@ pop_size register = if nat_lt (index register) 8 then 1 else 2
 abbrev pub pop_left : ℕ → Register → Unwound → Unwound
 pop_left run register u = if nat_le (pop_size register) run then u else popped 8 (with_saved register u.stack u)
 
--- the effect of undoing the pop for a push code; the pops after it have so many fewer bytes that have run
+-- the effect of undoing the pop for a push code; of the bytes that have run, those of this pop don't count for the pops
+-- after it
 abbrev pub code_left : Option Register → Popping → Popping
 code_left None p = p
 code_left (Some register) p = record { run = p.run - pop_size register; unwound = pop_left p.run register p.unwound }
