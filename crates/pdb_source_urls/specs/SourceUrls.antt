@@ -1,5 +1,5 @@
 -- Where the source files of a program can be fetched, as its PDB file says it.
-use Rattle.std.specs.Prelude.{ℕ, ◌==◌, ◌&&◌, Bool, List, length, Option, Some, None}
+use Rattle.std.specs.Prelude.{ℕ, List, Option, Some, None}
 use Rattle.pdb_msf.specs.Msf.{Msf}
 use Rattle.pdb_source_urls.specs.LinkUrls.{link_url}
 use Rattle.pdb_source_urls.specs.NamedStreams.{links_of, server_in}
@@ -15,10 +15,6 @@ pub record Urls : Type 0 where
 -- what a file says, by its streams
 abbrev pub urls_of : Msf → Urls
 urls_of msf = record { links = links_of msf; server = server_in msf }
-
--- whether a file says nothing of where its sources are: it has no entry, and no line of a file
-abbrev pub is_empty : Urls → Bool
-is_empty urls = (length urls.links == 0) && (length urls.server.files == 0)
 
 -- the first of two URLs that there is
 abbrev pub first_url : Option (List ℕ) → Option (List ℕ) → Option (List ℕ)

@@ -3,7 +3,7 @@
 ghost use Rattle.std.specs.Prelude.{◌≡◌, ◌≤◌, ℕ, List, None, IfErr, IfOk, option_map, string_bytes};
 ghost use Rattle.pdb_container.specs.DebugRecords.{of_file};
 ghost use Rattle.pdb_msf.specs.MsfLayout.{IfFile, Reads};
-ghost use Rattle.pdb_source_urls.specs.SourceUrls.{is_empty, url_of, urls_of};
+ghost use Rattle.pdb_source_urls.specs.SourceUrls.{url_of, urls_of};
 
 use crate::link_urls::link_url;
 use crate::named_streams::{NamedData, read_named};
@@ -65,13 +65,6 @@ impl SourceUrls {
                 },
             },
         }
-    }
-
-    /// Whether the file says nothing of where its sources are.
-    pub fn is_empty(&self) -> bool
-        ensures { result ≡ is_empty self.now }
-    {
-        self.read.links.is_empty() && self.read.server.files.is_empty()
     }
 
     /// The URL of a source file, whose name is as the PDB file has it. There is none if the PDB file doesn't say where
