@@ -15,11 +15,11 @@ use Rattle.pdb_source_urls.specs.SourceUrls.{Urls}
 
 -- questions fit the options: they have the file as it was named, these URLs of source files, the image base of the
 -- program, and the public names of these records if functions are renamed by them
-pub record AskOf (options : Options) (path : List ℕ) (urls : Urls) (base : Option ℕ) (records : Records)
+pub record AskOf (options : Options) (path : List ℕ) (source_urls : Urls) (base : Option ℕ) (records : Records)
     (questions : Questions) : Type 0 where
   pub given : questions.options.now ≡ options
   pub named : questions.file.now ≡ path
-  pub urls : questions.source_urls.now ≡ urls
+  pub urls : questions.source_urls.now ≡ source_urls
   pub loaded : questions.image_base ≡ image_base_of options base
   pub names : (start : ℕ) → known_name questions.names.now start ≡ function_name options records start
 
