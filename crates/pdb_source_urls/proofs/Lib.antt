@@ -1,5 +1,5 @@
 pub mod ExpansionLemmas
-pub mod FileNameLemmas
+pub mod PathNameLemmas
 pub mod JsonLemmas
 mod LinkExamples
 pub mod NumberedLemmas

@@ -1,4 +1,4 @@
-pub mod FileNames
+pub mod PathNames
 pub mod SourceLinks
 pub mod LinkUrls
 pub mod SourceServer

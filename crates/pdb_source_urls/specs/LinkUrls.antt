@@ -4,7 +4,7 @@ use Rattle.std.specs.Prelude.{drop, length, Option, Some, None, option_map, ifâ—
 use Rattle.std.specs.Char.{is_ascii_alphanumeric}
 use Rattle.std.specs.Fmt.{digits}
 use Rattle.std.specs.List.{after_first, before_first, flat_map}
-use Rattle.pdb_source_urls.specs.FileNames.{alike, begins_with}
+use Rattle.pdb_source_urls.specs.PathNames.{alike, begins_with}
 use Rattle.pdb_source_urls.specs.SourceLinks.{Link, is_star}
 
 -- whether an entry fits a file: the name is its path, or begins with it if a star follows

@@ -3,7 +3,7 @@ use Rattle.std.specs.Prelude.{ℕ, ◌||◌, ◌&&◌, Bool, nat_lt, List, [], �
 use Rattle.std.specs.Prelude.{length, option_and_then, if◌then◌else◌}
 use Rattle.std.specs.Str.{is_utf8}
 use Rattle.pdb_source_urls.specs.Expansion.{Value, expand, most_text, value_of, variable_value}
-use Rattle.pdb_source_urls.specs.FileNames.{alike}
+use Rattle.pdb_source_urls.specs.PathNames.{alike}
 use Rattle.pdb_source_urls.specs.SourceServer.{Definition, File, Server, text_begins}
 
 -- how deeply values may nest

@@ -6,7 +6,7 @@ ghost use Rattle.pdb_source_urls.specs.Expansion.{Gives, added, argument_of, cal
 ghost use Rattle.pdb_source_urls.specs.Expansion.{found_seen, function_of, given, next, part_at, expand, value_of};
 ghost use Rattle.pdb_source_urls.specs.Expansion.{closing, value_seen, variable_value, with_backslash};
 
-use crate::file_names::{alike, base_name, begins_with};
+use crate::path_names::{alike, base_name, begins_with};
 use crate::source_server::{Variable, cut_at, first_field};
 use pdb_msf::bytes_from;
 use std::alloc::{AllocError, AllocFailed, Global};

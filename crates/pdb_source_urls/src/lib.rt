@@ -6,9 +6,9 @@
 #![tactic(auto)]
 
 mod expansion;
-mod file_names;
 mod link_urls;
 mod named_streams;
+mod path_names;
 mod server_urls;
 mod source_links;
 mod source_server;

@@ -6,7 +6,7 @@ ghost use Rattle.pdb_source_urls.specs.LinkUrls.{best_link, escaped, escaped_byt
 ghost use Rattle.pdb_source_urls.specs.LinkUrls.{is_plain, link_url, url_by_link};
 ghost use Rattle.pdb_source_urls.specs.SourceLinks.{link_seen};
 
-use crate::file_names::{alike, begins_with};
+use crate::path_names::{alike, begins_with};
 use crate::source_links::{SourceLink, after_star, before_star};
 use pdb_msf::bytes_from;
 use std::alloc::{AllocError, Global};

@@ -6,7 +6,7 @@ ghost use Rattle.pdb_source_urls.specs.ServerUrls.{file_line, line_url, server_u
 ghost use Rattle.pdb_source_urls.specs.SourceServer.{definition_seen, file_seen, server_seen};
 
 use crate::expansion::{ExpandError, Expanded, MOST_TEXT, Sources, value_of, variable_value};
-use crate::file_names::alike;
+use crate::path_names::alike;
 use crate::source_server::{FileLine, SourceServer, Variable};
 use std::alloc::{AllocError, Global};
 

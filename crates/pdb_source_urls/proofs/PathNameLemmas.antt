@@ -1,6 +1,6 @@
 -- Names of files and how they begin.
 use Rattle.std.proofs.Common.{◌≡◌, ℕ, ◌<◌, ◌&&◌, Bool, true, false, List, [], ◌∷◌, length, refl, arith}
-use Rattle.pdb_source_urls.specs.FileNames.{begins_with}
+use Rattle.pdb_source_urls.specs.PathNames.{begins_with}
 
 and_false : (test : Bool) → (test && false) ≡ false
 and_false true = refl

@@ -1,10 +1,10 @@
 //! Names of files, in which letters from A to Z count as those from a to z.
 
 ghost use Rattle.std.specs.Prelude.{◌≡◌};
-ghost use Rattle.pdb_source_urls.specs.FileNames.{alike, base_name, begins_with, is_slash};
+ghost use Rattle.pdb_source_urls.specs.PathNames.{alike, base_name, begins_with, is_slash};
 
 /// Whether a name begins with a path.
-#[tactic(auto, using(crate::proofs::FileNameLemmas::short_name))]
+#[tactic(auto, using(crate::proofs::PathNameLemmas::short_name))]
 pub(crate) fn begins_with(name: &[u8], path: &[u8]) -> bool
     ensures { result ≡ begins_with name.now path.now }
 {
