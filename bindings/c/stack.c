@@ -74,11 +74,23 @@ static int print_stack(struct limberlime_handle *handle, uint32_t address)
     return 0;
 }
 
-/* Opens a PDB file, or else a records file. */
-static int64_t open_file(const uint8_t *bytes, size_t length, struct limberlime_handle *handle)
+/* Opens the records file at a path. */
+static int64_t open_records(const char *path, struct limberlime_handle *handle)
 {
-    int64_t answer = limberlime_open_pdb(bytes, length, handle);
-    if (answer == LIMBERLIME_NOT_A_PDB_FILE && limberlime_open(bytes, length, handle) == 0)
+    size_t length;
+    uint8_t *bytes = read_file(path, &length);
+    if (bytes == NULL)
+        return LIMBERLIME_CANNOT_READ_FILE;
+    int64_t answer = limberlime_open(bytes, length, handle);
+    free(bytes);
+    return answer;
+}
+
+/* Opens the PDB file at a path, or else the records file there. */
+static int64_t open_file(const char *path, struct limberlime_handle *handle)
+{
+    int64_t answer = limberlime_open_path(path, handle);
+    if (answer == LIMBERLIME_NOT_A_PDB_FILE && open_records(path, handle) == 0)
         return 0;
     return answer;
 }
@@ -104,18 +116,11 @@ int main(int argc, char **argv)
         fprintf(stderr, "usage: stack PDB ADDRESS...\n");
         return 2;
     }
-    size_t length;
-    uint8_t *bytes = read_file(argv[1], &length);
-    if (bytes == NULL) {
-        fprintf(stderr, "stack: cannot read %s\n", argv[1]);
-        return 2;
-    }
     struct limberlime_handle handle = LIMBERLIME_CLOSED;
-    int64_t answer = open_file(bytes, length, &handle);
-    free(bytes);
+    int64_t answer = open_file(argv[1], &handle);
     if (answer != 0) {
         fprintf(stderr, "stack: %s: %s\n", argv[1], limberlime_refusal_text(answer));
-        return 1;
+        return answer == LIMBERLIME_CANNOT_READ_FILE ? 2 : 1;
     }
     int status = print_stacks(&handle, argv + 2);
     limberlime_close(&handle);
