@@ -93,7 +93,7 @@ def misbehaviour(program, path, length):
     most = 64 * 2**20 + 100 * length
     try:
         run = subprocess.run(
-            [program, path] + ADDRESSES, capture_output=True, timeout=10,
+            [program, "--source-url", path] + ADDRESSES, capture_output=True, timeout=10,
             preexec_fn=lambda: resource.setrlimit(resource.RLIMIT_DATA, (most, most)))
     except subprocess.TimeoutExpired:
         return "more than ten seconds", None

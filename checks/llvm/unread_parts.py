@@ -96,6 +96,7 @@ def main(words):
     pdb = exe.with_suffix(".pdb")
     addresses = [hex(address) for address in range(int(words[2], 0), int(words[3], 0) + 1)]
     whole, _ = ask(LLVM, exe, addresses)
+    alike = [at for at, pair in enumerate(zip(whole, ask(program, exe, addresses)[0])) if pair[0] == pair[1]]
     failed = 0
     with tempfile.TemporaryDirectory() as folder:
         for name, broken in PARTS.items():
@@ -105,10 +106,11 @@ def main(words):
             theirs, _ = ask(LLVM, copy, addresses)
             crashed = len(theirs) < len(addresses)
             ours, error = ask(program, copy, addresses)
-            differ = [at for at, pair in enumerate(zip(ours, whole if crashed else theirs)) if pair[0] != pair[1]]
+            wanted = whole if crashed else theirs
+            differ = [at for at in alike if ours[at:at + 1] != wanted[at:at + 1]]
             told = "left out" in error
             failed += bool(differ) or not told or len(ours) != len(addresses)
-            print(f"{name}: {len(ours)} answers, {len(differ)} differ from LLVM's"
+            print(f"{name}: {len(ours)} answers, of {len(alike)} that are alike over the whole file {len(differ)} differ from LLVM's"
                   f"{' over the whole file, since it crashes' if crashed else ''}; {error.strip() or 'nothing is said'}")
     return 1 if failed else 0
 
