@@ -6,4 +6,4 @@ use Rattle.pdb_symbolizer_lib.proofs.frame_answers.sources_of.Given as goal
 abbrev pub invariant-loop-frame : goal.invariant-loop-frame
 invariant-loop-frame over l = map (frame_url l.questions.source_urls.now) l.frames
     ≡ map (λ source. source.url) l.sources.items
-      ++ map (frame_url l.questions.source_urls.now) (drop l.frame-index l.frames)
+    ++ map (frame_url l.questions.source_urls.now) (drop l.frame-index l.frames)
