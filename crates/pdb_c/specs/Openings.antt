@@ -75,7 +75,8 @@ pub record OverFile (bytes : List ℕ) (context : ContextState Records) : Type 0
   pub made : context_over records ≡ Ok context
 
 -- the content of a handle after a PDB file was opened in it: a context over its records, or its old content
-abbrev pub LeavesOver : {A : Type 0} → List ℕ → Result A CallError → (held held' : Option (ContextState Records)) → Type 0
+abbrev pub LeavesOver : {A : Type 0} → List ℕ → Result A CallError → (held held' : Option (ContextState Records))
+    → Type 0
 LeavesOver bytes (Ok answer) held (Some context) = OverFile bytes context
 LeavesOver bytes (Ok answer) held None = ⊥
 LeavesOver bytes (Err refusal) held held' = held' ≡ held

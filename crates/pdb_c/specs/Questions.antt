@@ -99,7 +99,8 @@ IsLeftByReport result before after command (address ∷ addresses) =
     IsLeftWithText result before after command (address ∷ addresses)
 
 -- the context after a question: the broken parts of the records that it found have failed
-abbrev pub IsLeftBy : {A : Type 0} → Result A CallError → ContextState Records → Question → ContextState Records → Type 0
+abbrev pub IsLeftBy : {A : Type 0} → Result A CallError → ContextState Records → Question → ContextState Records
+    → Type 0
 IsLeftBy result before (question.Frames address) after =
     IsLeftByCall result before (after_frames infos before address) after
 IsLeftBy result before (question.Function address) after =

@@ -142,7 +142,8 @@ named_module position procedure read = read
 
 -- modules with one symbol replaced
 abbrev pub named : List ModuleOrFault → RenamedSymbol → List ModuleOrFault
-named modules renamed_symbol = changed_at renamed_symbol.module_index (named_module renamed_symbol.position renamed_symbol.procedure) modules
+named modules renamed_symbol =
+    changed_at renamed_symbol.module_index (named_module renamed_symbol.position renamed_symbol.procedure) modules
 
 -- modules whose nameless code has its function's name, as far as the names fit in `room` bytes
 unfoldable pub named_modules : ℕ → Result (Read Symbol) StreamError → List ModuleOrFault → List ModuleOrFault
