@@ -1,24 +1,29 @@
 /* Limberlime: functions, files, lines and inlined calls at addresses of a Windows program.
  *
- * limberlime_open_path opens a PDB file at a path, of which it reads what questions need. limberlime_open_pdb reads all
- * of a PDB file, and limberlime_open a records file (docs/FORMAT.md), once into a handle;
- * limberlime_open_records reads a records file that names module files. limberlime_find_frames and
- * limberlime_find_function answer an address of it as data, limberlime_find_all_frames answers many, and
- * limberlime_next_function goes over all functions. limberlime_frames_of and limberlime_names_of write a text into a
- * buffer of the caller's: the very text that the program pdb_report prints of such records. limberlime_frames and
- * limberlime_names do so over the bytes of a records file, which they read at each call. Link with -llimberlime.
+ * Four calls open a handle:
+ *   limberlime_open_path     a PDB file at a path; reads what questions need, when they are asked
+ *   limberlime_open_pdb      the bytes of a PDB file; reads all of it
+ *   limberlime_open          the bytes of a records file (docs/FORMAT.md)
+ *   limberlime_open_records  the bytes of a records file that names module files
  *
- * What the caller owes: each pointer is null, or valid for as many elements as its length says and aligned for them,
- * until the call returns. Nobody writes meanwhile what a call reads, and nobody else uses what it writes: the buffer,
- * *wanted and the handle, which overlap neither each other nor what is read. Lengths in bytes are below 2 to the power
- * of 63. No call holds a pointer that it was given past its return. Memory comes from malloc, realloc and free; so no
- * call is made from a signal handler, nor from the forked child of a process with threads. The calls share nothing but
- * a handle that they are given, so threads may make them side by side, each with handles of its own.
+ * limberlime_find_frames and limberlime_find_function answer one address as data, limberlime_find_all_frames answers
+ * many, and limberlime_next_function goes over all functions. limberlime_frames_of and limberlime_names_of write the
+ * text that the program pdb_report prints to a buffer of the caller. limberlime_frames and limberlime_names do the same
+ * over the bytes of a records file, which they read at each call. Link with -llimberlime.
  *
- * What the caller owes a handle: it is LIMBERLIME_CLOSED before its first call, only these calls write it from then on,
- * and one call at a time is given it, since each of them writes it. It may be moved, but of an open handle no second
- * copy is ever used. It is closed before its memory goes, or its records are never given back. It may go to another
- * thread where the two are ordered, as by a lock, or by a thread's start or join.
+ * Pointers: each pointer is null, or valid and aligned for as many elements as its length says, until the call returns.
+ * During a call nobody writes what it reads, and nobody else uses what it writes: the buffer, *wanted and the handle.
+ * These overlap neither each other nor what is read. Lengths in bytes are below 2 to the power of 63. No call keeps a
+ * pointer that it was given after it returned.
+ *
+ * Memory comes from malloc, calloc, realloc and free. So no call may be made from a signal handler, or from the forked
+ * child of a process with threads. Calls share nothing but the handle that they are given, so threads may make them at
+ * the same time, each with handles of its own.
+ *
+ * Handles: a handle is LIMBERLIME_CLOSED before its first call. From then on only these calls write it, one at a time.
+ * It may be moved, but no second copy of an open handle may be used. It must be closed before its own memory is freed;
+ * otherwise its records are never freed. It may go to another thread if the two are ordered, as by a lock, or by the
+ * thread's start or join.
  */
 #ifndef LIMBERLIME_H
 #define LIMBERLIME_H
@@ -44,8 +49,8 @@
 #define LIMBERLIME_VERSION_MINOR 2
 #define LIMBERLIME_VERSION_PATCH 0
 
-/* How the functions below are defined: each file that includes this has its own. A file that makes a shared library of
- * them says so before, by a definition of its own (bindings/library.c). */
+/* How the functions below are defined. By default each file that includes this header has its own copies. A file that
+ * makes a shared library of them defines this macro first (bindings/library.c). */
 #ifndef LIMBERLIME_FUNCTION
 #define LIMBERLIME_FUNCTION static inline
 #endif
@@ -54,21 +59,21 @@
 extern "C" {
 #endif
 
-/* Why a call has no answer. A buffer is as it was then. */
+/* Why a call has no answer. The buffer is then unchanged. */
 enum limberlime_refusal {
-    /* A pointer is null, whatever its length. *wanted is not written. */
+    /* A pointer is null, whatever its length. *wanted is unchanged. */
     LIMBERLIME_NULL_POINTER = -1,
     /* No addresses: the count is 0. */
     LIMBERLIME_NO_ADDRESSES = -2,
-    /* The bytes are no JSON text; no bytes are none either. */
+    /* The bytes are not a JSON text. An empty text isn't one either. */
     LIMBERLIME_NOT_JSON = -3,
-    /* The JSON text holds no records: a value is absent, of another sort, or out of range. pdb_report says where. */
+    /* The JSON text has no records: a value is missing, of the wrong kind, or out of range. pdb_report says where. */
     LIMBERLIME_NO_RECORDS = -4,
-    /* The records file names module files, and limberlime_open_records alone takes these. */
+    /* The records file names module files, which only limberlime_open_records reads. */
     LIMBERLIME_MODULE_FILES = -5,
-    /* The records are refused, as where two modules claim the same bytes, or a stream of them failed. */
+    /* The records are refused, for example because two modules claim the same bytes, or a stream can't be read. */
     LIMBERLIME_RECORDS_REFUSED = -6,
-    /* The records of some address's module are refused. Ask for one address at a time to learn which. */
+    /* The records of the module of some address are refused. Ask for one address at a time to learn which. */
     LIMBERLIME_ADDRESS_REFUSED = -7,
     /* Memory ran out. The same call may succeed later. */
     LIMBERLIME_OUT_OF_MEMORY = -8,
@@ -76,68 +81,67 @@ enum limberlime_refusal {
     LIMBERLIME_BUFFER_TOO_SMALL = -9,
     /* The handle is closed: it was never opened, its last opening was refused, or limberlime_close closed it. */
     LIMBERLIME_CLOSED_HANDLE = -10,
-    /* The bytes are no PDB file. */
+    /* The bytes are not a PDB file. */
     LIMBERLIME_NOT_A_PDB_FILE = -11,
-    /* The bytes are a program or a library, not its PDB file. */
+    /* The bytes are a program (EXE or DLL), not its PDB file. */
     LIMBERLIME_PROGRAM = -12,
-    /* The bytes are the debugging records of a program for .NET, a portable PDB. */
+    /* The bytes are a portable PDB file, which a program for .NET has. */
     LIMBERLIME_PORTABLE_PDB = -13,
-    /* The bytes are a compressed file, as symbol stores have them. */
+    /* The bytes are a compressed file from a symbol store. */
     LIMBERLIME_COMPRESSED = -14,
-    /* The bytes are a PDB file of the version before 7.00. */
+    /* The bytes are a PDB file of version 2.00, which has another format. */
     LIMBERLIME_OLD_PDB_FILE = -15,
-    /* The bytes end before the PDB file's directory of streams does. */
+    /* The bytes end before the end of the PDB file's directory of streams. */
     LIMBERLIME_CUT_SHORT = -16,
-    /* The streams of the PDB file are longer than it together. */
+    /* The streams of the PDB file are together longer than the file. */
     LIMBERLIME_STREAMS_TOO_LONG = -17,
-    /* The PDB file is one that a compiler keeps, of objects and not of a program. */
+    /* The PDB file describes the objects of a compiler, not a program. */
     LIMBERLIME_OF_OBJECTS = -18,
-    /* No call answers this number. Where the types of a PDB file have a form from before 2005, functions go by the names
-     * of their symbols. */
+    /* No call answers this number. If the types of a PDB file have a form from before 2005, functions have the names of
+     * their symbols. */
     LIMBERLIME_OLD_TYPES = -19,
-    /* The PDB file was stripped of its section headers, so nothing says where code lies. */
+    /* The PDB file has no section headers, so nothing says where code is. */
     LIMBERLIME_NO_SECTION_HEADERS = -20,
-    /* Addresses were rearranged after linking, which is not undone. */
+    /* Code was rearranged after linking (OMAP), and answers would have wrong addresses. */
     LIMBERLIME_REARRANGED = -21,
-    /* A stream is broken that nothing can be answered without. */
+    /* A stream that all answers need is broken. */
     LIMBERLIME_BROKEN_STREAM = -22,
-    /* The PDB file doesn't say which build it is of. */
+    /* The PDB file has no debug id, so nothing says which build it belongs to. */
     LIMBERLIME_NO_DEBUG_ID = -23,
-    /* The caller can't read a module file that the records file names. */
+    /* The caller's function can't read a module file that the records file names. */
     LIMBERLIME_CANNOT_READ_MODULE = -24,
     /* The file at the path can't be read: it doesn't exist, is a folder, or the system refuses it. */
     LIMBERLIME_CANNOT_READ_FILE = -25
 };
 
-/* A function in whose code an address lies: the one that was called, or one whose body was inlined there. Texts are
- * UTF-8, with a 0 behind the last byte, which the length doesn't count. */
+/* A function whose code has an address: the one that was called, or one that was inlined there. Texts are UTF-8. A 0
+ * follows the last byte, and the length doesn't count it. */
 struct limberlime_frame {
-    /* The function's name, or null where none is known, and how many bytes it has: its signature, or the name of its
-     * symbol where that can't be printed. */
+    /* The function's name and its length in bytes: its signature, or the name of its symbol if the signature can't be
+     * printed. Null if it is unknown. */
     const char *function;
     size_t function_length;
-    /* The source file that the code comes from, or null where none is known, and how many bytes its name has. */
+    /* The name of the code's source file and its length in bytes. Null if it is unknown. */
     const char *file;
     size_t file_length;
-    /* The line in that file, or 0 where none is known. Records may have a line 0, which is not told from that. */
+    /* The line in that file. It is 0 if the line is unknown, and also if the records say 0. */
     uint32_t line;
 };
 
-/* The frames over an address. They and their texts stay until the next call with their handle. */
+/* The frames at an address. They and their texts are valid until the next call with their handle. */
 struct limberlime_function_frames {
-    /* How many there are: 0 where no function lies over the address. */
+    /* How many there are. It is 0 if no function contains the address. */
     size_t count;
-    /* The frames, the innermost inlined function first, and last the one that was called. */
+    /* The frames: the innermost inlined function first, and the function that was called last. */
     const struct limberlime_frame *frames;
-    /* Where that function starts, relative to where the program is loaded. */
+    /* Where the function that was called starts, relative to where the program is loaded. */
     uint32_t start;
-    /* The address of the first byte behind it, where end_known is 1. It is 0 where none is known. */
+    /* The address of the first byte after it if end_known is 1, and else 0. */
     uint32_t end;
     uint32_t end_known;
 };
 
-/* Where a text stands among the texts of an answer, and how many bytes it has. One that isn't known starts at
- * SIZE_MAX. */
+/* Where a text is among the texts of an answer, and its length in bytes. A text that is unknown starts at SIZE_MAX. */
 struct limberlime_place {
     size_t start;
     size_t length;
@@ -159,9 +163,9 @@ struct limberlime_found {
     uint32_t end_known;
 };
 
-/* The size of each public struct, in bytes, as the caller's compiler knows it; 0 means the size in the library. A later
- * version may add members at the end of a struct. It then writes only the members that the caller's struct has, so a
- * program runs with the library of its header's version and with each later one of the same soname. */
+/* The size of each public struct in bytes, as the caller was compiled; 0 means the size in the library. A later version
+ * may add members at the end of a struct. It then writes only the members that the caller's struct has. So a program
+ * runs with the library of its header's version, and with each later one of the same soname. */
 struct limberlime_sizes {
     size_t handle;
     size_t function_frames;
@@ -196,15 +200,15 @@ struct limberlime_file {
     unsigned rounds;
 };
 
-/* Records that were opened, and a context that answers over them and borrows from them, both in memory of the library's
- * that the handle owns, or none. */
+/* Records that were opened, and a context that answers over them and borrows from them, or nothing. The handle owns
+ * both; their memory is the library's. */
 struct limberlime_handle {
-    /* Both are the library's alone, to write and to follow. The second is null where the handle is closed. */
+    /* Only the library uses these. The second is null if the handle is closed. */
     void *records;
     void *context;
     /* Set by LIMBERLIME_CLOSED, and read by the functions below. */
     struct limberlime_sizes sizes;
-    /* Those of the functions below alone, to write and to follow. */
+    /* Only the functions below use these. */
     struct limberlime_buffers buffers;
     struct limberlime_file file;
 };
@@ -215,7 +219,7 @@ struct limberlime_handle {
 #define LIMBERLIME_SIZES \
     { sizeof(struct limberlime_handle), sizeof(struct limberlime_function_frames), sizeof(struct limberlime_frame) }
 
-/* The calls as the library has them. They are given no null pointer; the functions below see to that. */
+/* The library's own calls. The functions below give them no null pointer. */
 int64_t limberlime_frames_unchecked(const uint8_t *records, size_t records_length, const uint32_t *addresses,
                                     size_t address_count, uint8_t *buffer, size_t capacity, size_t *wanted);
 int64_t limberlime_names_unchecked(const uint8_t *records, size_t records_length, const uint32_t *addresses,
@@ -258,7 +262,8 @@ LIMBERLIME_FUNCTION int64_t limberlime_version(void)
     return limberlime_version_unchecked();
 }
 
-/* What a number that a call answers says in words, as a text that stays. An empty one where it is no refusal. */
+/* The message for a number that a call answers: a text that is always valid, and is empty if the number is no refusal.
+ */
 LIMBERLIME_FUNCTION const char *limberlime_refusal_text(int64_t answer)
 {
     switch (answer) {
@@ -291,20 +296,17 @@ LIMBERLIME_FUNCTION const char *limberlime_refusal_text(int64_t answer)
     }
 }
 
-/* Writes the functions in whose code each address lies, innermost inlined one first, with files and lines, as
+/* Writes the functions at each address, with files and lines, the innermost inlined function first. The text is that of
  *     pdb_report RECORDS frames ADDRESS...
- * does.
  *
  * records, records_length: the bytes of a records file.
  * addresses, address_count: relative to where the program is loaded, in bytes.
- * buffer, capacity: where the text goes, and how many bytes there are. The text is UTF-8, and no 0 byte ends it. Bytes
- *     behind the text stay as they are.
- * wanted: the length of the text in bytes is put here, also where the buffer is too small for it; 0 where there is no
- *     text.
+ * buffer, capacity: where the text goes, and its room in bytes. The text is UTF-8 and doesn't end with a 0. Bytes after
+ *     the text are unchanged.
+ * wanted: gets the length of the text in bytes, even if the buffer is too small for it, and 0 if there is no text.
  *
- * Answers the length of the text that was written, in bytes, or a number of enum limberlime_refusal. To learn the
- * length alone, give a capacity of 0, with a buffer that is not null all the same. Where one address is refused,
- * nothing is written of the others.
+ * Answers the length of the text that was written, in bytes, or a number of enum limberlime_refusal. To learn only the
+ * length, give a capacity of 0; the buffer must not be null even so. If one address is refused, nothing is written.
  */
 LIMBERLIME_FUNCTION int64_t limberlime_frames(const uint8_t *records, size_t records_length, const uint32_t *addresses,
                                               size_t address_count, uint8_t *buffer, size_t capacity, size_t *wanted)
@@ -314,9 +316,9 @@ LIMBERLIME_FUNCTION int64_t limberlime_frames(const uint8_t *records, size_t rec
     return limberlime_frames_unchecked(records, records_length, addresses, address_count, buffer, capacity, wanted);
 }
 
-/* Writes a line with the function that each address lies in, its start and its end, as
+/* Writes a line for each address: its function, and where that starts and ends. The text is that of
  *     pdb_report RECORDS names ADDRESS...
- * does. All else is as of limberlime_frames.
+ * All else is as for limberlime_frames.
  */
 LIMBERLIME_FUNCTION int64_t limberlime_names(const uint8_t *records, size_t records_length, const uint32_t *addresses,
                                              size_t address_count, uint8_t *buffer, size_t capacity, size_t *wanted)
@@ -342,14 +344,14 @@ static inline void limberlime_free_file(struct limberlime_handle *handle)
     *file = none;
 }
 
-/* Reads the records in the bytes of a records file into a handle, for limberlime_frames_of and limberlime_names_of.
+/* Opens a handle over the records in the bytes of a records file.
  *
- * records, records_length: the bytes of a records file. They are not needed any more once the call has returned.
- * handle: what it held before is given back first.
+ * records, records_length: the bytes of a records file. They may be freed after the call.
+ * handle: if it is open, it is closed first.
  *
- * Answers 0, or a number of enum limberlime_refusal, and then the handle is closed, but with LIMBERLIME_NULL_POINTER,
- * which leaves it as it was. What the records of all modules are refused for is answered here, as
- * LIMBERLIME_RECORDS_REFUSED; what those of one module are refused for is answered where an address of it is asked for.
+ * Answers 0, or a number of enum limberlime_refusal. After a refusal the handle is closed; only after
+ * LIMBERLIME_NULL_POINTER it is unchanged. If the records can't answer anything, this call says so, by
+ * LIMBERLIME_RECORDS_REFUSED. If only those of one module are broken, the calls that ask for its addresses say so.
  */
 LIMBERLIME_FUNCTION int64_t limberlime_open(const uint8_t *records, size_t records_length,
                                             struct limberlime_handle *handle)
@@ -368,18 +370,19 @@ static inline size_t limberlime_capacity(size_t capacity, size_t wanted)
     return capacity < wanted ? wanted : capacity;
 }
 
-/* Hands in a module file of a records file.
+/* The caller's function that reads a module file of a records file.
  *
- * caller: what limberlime_open_records was given for it.
- * name: the file's name, with a 0 behind it: a path by itself where it begins with a slash, and else from the folder of
- *     the records file on.
- * bytes, length: where the file's bytes lie, which stay there until the next call of it, and how many there are.
+ * caller: the pointer that was given to limberlime_open_records.
+ * name: the file's name, ended by a 0. If it doesn't begin with a slash, it is relative to the folder of the records
+ *     file.
+ * bytes, length: get the place and the number of the file's bytes, which must be valid until the next call of this
+ *     function.
  *
- * Answers 0, or another number where the file can't be read.
+ * Answers 0, or another number if the file can't be read.
  */
 typedef int (*limberlime_module_file_call)(void *caller, const char *name, const uint8_t **bytes, size_t *length);
 
-/* The contents of module files, one behind the other. */
+/* The contents of module files, one after the other. */
 struct limberlime_contents {
     uint8_t *bytes;
     size_t length;
@@ -388,7 +391,7 @@ struct limberlime_contents {
     size_t count;
 };
 
-/* Puts the bytes of a file behind the others. Whether there was memory for them. */
+/* Appends the bytes of a file. Answers whether there was memory for them. */
 static inline int limberlime_append(struct limberlime_contents *contents, const uint8_t *bytes, size_t length)
 {
     size_t wanted = contents->length + length;
@@ -407,7 +410,7 @@ static inline int limberlime_append(struct limberlime_contents *contents, const 
     return 1;
 }
 
-/* Has the caller hand in the files of these names, each of which has a 0 behind it. */
+/* Has the caller's function read the files of these names, each of which is ended by a 0. */
 static inline int64_t limberlime_gather(const uint8_t *names, size_t names_length,
                                         limberlime_module_file_call module_file, void *caller,
                                         struct limberlime_contents *contents)
@@ -443,12 +446,12 @@ static inline int64_t limberlime_open_named(const uint8_t *records, size_t recor
     return answer;
 }
 
-/* Reads the records in the bytes of a records file, and of the module files that it names, into a handle.
+/* Opens a handle over the records in the bytes of a records file and of the module files that it names.
  *
- * module_file, caller: hands in each module file, in the order in which the records file names them. It makes no call
- *     with this handle.
+ * module_file, caller: reads each module file, in the order in which the records file names them. It makes no call with
+ *     this handle.
  *
- * All else is as of limberlime_open. Where a module file can't be read the answer is LIMBERLIME_CANNOT_READ_MODULE.
+ * All else is as for limberlime_open. If a module file can't be read, the answer is LIMBERLIME_CANNOT_READ_MODULE.
  */
 LIMBERLIME_FUNCTION int64_t limberlime_open_records(const uint8_t *records, size_t records_length,
                                                     limberlime_module_file_call module_file, void *caller,
@@ -478,14 +481,13 @@ LIMBERLIME_FUNCTION int64_t limberlime_open_records(const uint8_t *records, size
     return answer;
 }
 
-/* Reads the records in the bytes of a PDB file into a handle, for all calls with a handle.
+/* Opens a handle over the bytes of a PDB file, and reads all of it.
  *
- * pdb, pdb_length: the bytes of a PDB file. They are not needed any more once the call has returned.
- * handle: what it held before is given back first.
+ * pdb, pdb_length: the bytes of a PDB file. They may be freed after the call.
+ * handle: if it is open, it is closed first.
  *
- * What of the file is broken is left out, as pdb_symbolizer leaves it out, and all else is answered. Answers 0, or a
- * number of enum limberlime_refusal, and then the handle is closed, but with LIMBERLIME_NULL_POINTER, which leaves it
- * as it was.
+ * Broken parts of the file are left out, as in pdb_symbolizer. Answers 0, or a number of enum limberlime_refusal. After
+ * a refusal the handle is closed; only after LIMBERLIME_NULL_POINTER it is unchanged.
  */
 LIMBERLIME_FUNCTION int64_t limberlime_open_pdb(const uint8_t *pdb, size_t pdb_length,
                                                 struct limberlime_handle *handle)
@@ -496,11 +498,11 @@ LIMBERLIME_FUNCTION int64_t limberlime_open_pdb(const uint8_t *pdb, size_t pdb_l
     return limberlime_open_pdb_unchecked(pdb, pdb_length, handle);
 }
 
-/* How often parts of a file are read. Each time, the tables of a context are made anew, so the next time all of the file
- * is read. */
+/* How often parts of a file are read. Each time, the tables of a context are built again, so after this many times all
+ * of the file is read. */
 #define LIMBERLIME_ROUNDS 16
 
-/* Adds an address for which a part is read. Whether there was memory for it. */
+/* Adds an address for which a part is read. Answers whether there was memory for it. */
 static inline int limberlime_add_address(struct limberlime_file *file, uint32_t address)
 {
     if (file->address_count == file->address_capacity) {
@@ -515,8 +517,8 @@ static inline int limberlime_add_address(struct limberlime_file *file, uint32_t 
     return 1;
 }
 
-/* Makes room for the flags of this many modules. Those that are set stay set, since a later part has all modules of the
- * parts before. Whether there was memory. */
+/* Makes room for the flags of this many modules. Flags that are set stay set, since a later part has all modules of the
+ * parts before it. Answers whether there was memory. */
 static inline int limberlime_grow_flags(struct limberlime_file *file, size_t modules)
 {
     size_t capacity = limberlime_capacity(1024, modules);
@@ -570,31 +572,32 @@ static inline int64_t limberlime_read_whole(struct limberlime_handle *handle)
     return 0;
 }
 
-/* Reads what is missing for answers at these addresses, of a file of which only parts were read. */
+/* Reads what is missing for answers at these addresses, of a file of which only parts were read. After a refusal the
+ * file has the addresses that it had. */
 static inline int64_t limberlime_read_for(struct limberlime_handle *handle, const uint32_t *addresses,
                                           size_t address_count)
 {
     struct limberlime_file *file = &handle->file;
     size_t before = file->address_count;
-    int64_t answer;
+    int64_t answer = 0;
     if (file->bytes == NULL)
         return 0;
-    for (size_t i = 0; i < address_count; i++) {
+    for (size_t i = 0; answer >= 0 && i < address_count; i++) {
         answer = limberlime_is_read_unchecked(handle, addresses[i], file->flags, file->modules);
-        if (answer < 0)
-            return answer;
         if (answer == 0 && !limberlime_add_address(file, addresses[i]))
-            return LIMBERLIME_OUT_OF_MEMORY;
+            answer = LIMBERLIME_OUT_OF_MEMORY;
     }
-    if (file->address_count == before)
-        return 0;
-    answer = ++file->rounds > LIMBERLIME_ROUNDS ? limberlime_read_whole(handle) : limberlime_read_part(handle);
+    if (answer >= 0) {
+        if (file->address_count == before)
+            return 0;
+        answer = ++file->rounds > LIMBERLIME_ROUNDS ? limberlime_read_whole(handle) : limberlime_read_part(handle);
+    }
     if (answer < 0)
         file->address_count = before;
     return answer;
 }
 
-/* The bytes of the file at a path, mapped if the system can do that. Whether it can be read. */
+/* Gets the bytes of the file at a path, mapped if the system can do that. Answers whether it can be read. */
 static inline int limberlime_map(const char *path, struct limberlime_file *file)
 {
 #if LIMBERLIME_MAPS_FILES
@@ -615,6 +618,7 @@ static inline int limberlime_map(const char *path, struct limberlime_file *file)
 #else
     FILE *stream = fopen(path, "rb");
     size_t capacity = (size_t)1 << 20, read = 0;
+    int is_whole;
     if (stream == NULL)
         return 0;
     do {
@@ -626,20 +630,21 @@ static inline int limberlime_map(const char *path, struct limberlime_file *file)
         file->length += read;
         capacity *= 2;
     } while (read > 0);
-    return fclose(stream) == 0 && file->length > 0;
+    is_whole = feof(stream) && !ferror(stream);
+    return fclose(stream) == 0 && is_whole && file->length > 0;
 #endif
 }
 
-/* Opens the PDB file at a path, for all calls with a handle. Of the file only what a question needs is read, when it is
- * asked for; limberlime_next_function, limberlime_frames_of and limberlime_names_of read all of it.
+/* Opens a handle over the PDB file at a path. It reads only what questions need, when they are asked;
+ * limberlime_next_function, limberlime_frames_of and limberlime_names_of read all of the file.
  *
- * path: of a file that stays as it is until the handle is closed. It may be removed, or replaced by another one that is
- *     renamed to its path. If it is written or cut meanwhile, answers are wrong, or the process ends by SIGBUS.
- * handle: what it held before is given back first.
+ * path: of a file that doesn't change until the handle is closed. It may be removed, or replaced by another file that
+ *     is renamed to its path. If it is written or truncated meanwhile, answers are wrong, or the process ends by SIGBUS.
+ * handle: if it is open, it is closed first.
  *
- * What of the file is broken is left out, as pdb_symbolizer leaves it out, and all else is answered. Answers 0, or a
- * number of enum limberlime_refusal, and then the handle is closed, but with LIMBERLIME_NULL_POINTER, which leaves it as
- * it was. LIMBERLIME_CANNOT_READ_FILE is for a file that can't be read, or has no bytes.
+ * Broken parts of the file are left out, as in pdb_symbolizer. Answers 0, or a number of enum limberlime_refusal. After
+ * a refusal the handle is closed; only after LIMBERLIME_NULL_POINTER it is unchanged. LIMBERLIME_CANNOT_READ_FILE is
+ * for a file that can't be read, or is empty.
  */
 LIMBERLIME_FUNCTION int64_t limberlime_open_path(const char *path, struct limberlime_handle *handle)
 {
@@ -657,10 +662,10 @@ LIMBERLIME_FUNCTION int64_t limberlime_open_path(const char *path, struct limber
     return answer;
 }
 
-/* Writes the debug id of a PDB file, by which a program, a symbol server and a crash report name it: 32 digits and
- * behind them the age, as 6B32B94164959A524C4C44205044422E1. A buffer of 40 bytes has room for each.
+/* Writes the debug id of a PDB file, by which programs, symbol servers and crash reports name it: 32 digits, then the
+ * age, for example 6B32B94164959A524C4C44205044422E1. 40 bytes are enough for each.
  *
- * Answers its length, or a number of enum limberlime_refusal. The buffer and *wanted are as of limberlime_frames.
+ * Answers its length, or a number of enum limberlime_refusal. The buffer and *wanted are as for limberlime_frames.
  */
 LIMBERLIME_FUNCTION int64_t limberlime_debug_id(const uint8_t *pdb, size_t pdb_length, uint8_t *buffer,
                                                 size_t capacity, size_t *wanted)
@@ -670,8 +675,8 @@ LIMBERLIME_FUNCTION int64_t limberlime_debug_id(const uint8_t *pdb, size_t pdb_l
     return limberlime_debug_id_unchecked(pdb, pdb_length, buffer, capacity, wanted);
 }
 
-/* Answers the number of the processor that a PDB file's program is for, as programs have it: 0x8664 for x86_64, 0x14c
- * for x86, 0xaa64 for Arm64, and 0 where the file doesn't say it; or a number of enum limberlime_refusal.
+/* Answers the machine type of a PDB file's program, by its number in program headers: 0x8664 for x86_64, 0x14c for x86,
+ * 0xaa64 for Arm64, and 0 if the file doesn't say it; or a number of enum limberlime_refusal.
  */
 LIMBERLIME_FUNCTION int64_t limberlime_machine(const uint8_t *pdb, size_t pdb_length)
 {
@@ -680,7 +685,7 @@ LIMBERLIME_FUNCTION int64_t limberlime_machine(const uint8_t *pdb, size_t pdb_le
     return limberlime_machine_unchecked(pdb, pdb_length);
 }
 
-/* Allocates buffers for an answer of this size, with frames of the caller's size. Whether there was memory. */
+/* Allocates buffers for an answer of this size, with frames of the caller's size. Answers whether there was memory. */
 static inline int limberlime_grow(struct limberlime_buffers *buffers, size_t rows, size_t texts, size_t frame_size)
 {
     if (buffers->row_capacity == 0 || buffers->row_capacity < rows) {
@@ -701,13 +706,13 @@ static inline int limberlime_grow(struct limberlime_buffers *buffers, size_t row
         && buffers->text_capacity != 0;
 }
 
-/* The text at a place, or null where it isn't known. */
+/* The text at a place, or null if it is unknown. */
 static inline const char *limberlime_text(const struct limberlime_buffers *buffers, struct limberlime_place place)
 {
     return place.start == SIZE_MAX ? NULL : (const char *)buffers->texts + place.start;
 }
 
-/* Makes frames of what the library wrote into a handle's buffers, with pointers to its texts. */
+/* Makes frames of what the library wrote to a handle's buffers, with pointers to their texts. */
 static inline void limberlime_show(struct limberlime_buffers *buffers, const struct limberlime_found *found,
                                    size_t frame_size, struct limberlime_function_frames *frames)
 {
@@ -731,7 +736,7 @@ static inline void limberlime_show(struct limberlime_buffers *buffers, const str
 typedef int64_t (*limberlime_find_call)(struct limberlime_handle *, uint32_t, struct limberlime_row *, size_t,
                                         uint8_t *, size_t, struct limberlime_found *);
 
-/* Asks by a call of the library's, with larger buffers if the answer doesn't fit. */
+/* Asks by a call of the library, with larger buffers if the answer doesn't fit. */
 static inline int64_t limberlime_find(limberlime_find_call call, struct limberlime_handle *handle, uint32_t address,
                                       struct limberlime_function_frames *frames)
 {
@@ -750,17 +755,17 @@ static inline int64_t limberlime_find(limberlime_find_call call, struct limberli
     return answer;
 }
 
-/* Finds the frames over an address: the functions in whose code it lies, with files and lines, from inside to outside.
+/* Finds the frames at an address: the functions that contain it, with files and lines, the innermost one first.
  *
- * handle: open. It holds the same records afterwards, also where the call is refused, and keeps what was read of them
- *     for this answer, so that later questions cost less. A part of the records that was met broken has failed from
- *     then on; what stands on it is answered as before, by the same refusal or with the same names absent.
+ * handle: open. It has the same records after the call, even if the call is refused. It keeps what this answer read, so
+ *     later questions take less time. If a part of the records is found broken, later questions that need it get the
+ *     same refusal, or the same names are missing.
  * address: relative to where the program is loaded, in bytes.
- * frames: what is found. It is written where the answer is 0, and else left as it is.
+ * frames: gets what is found. It is unchanged if the call is refused.
  *
- * Answers 0, also where no function lies over the address and frames->count is 0, or a number of
- * enum limberlime_refusal: LIMBERLIME_CLOSED_HANDLE, LIMBERLIME_ADDRESS_REFUSED, LIMBERLIME_RECORDS_REFUSED,
- * LIMBERLIME_OUT_OF_MEMORY or LIMBERLIME_NULL_POINTER. Of a PDB file the frames are those that pdb_symbolizer prints.
+ * Answers 0, or a number of enum limberlime_refusal: LIMBERLIME_CLOSED_HANDLE, LIMBERLIME_ADDRESS_REFUSED,
+ * LIMBERLIME_RECORDS_REFUSED, LIMBERLIME_OUT_OF_MEMORY or LIMBERLIME_NULL_POINTER. If no function contains the address,
+ * it answers 0, and frames->count is 0. The frames of a PDB file are those that pdb_symbolizer prints.
  */
 LIMBERLIME_FUNCTION int64_t limberlime_find_frames(struct limberlime_handle *handle, uint32_t address,
                                                    struct limberlime_function_frames *frames)
@@ -772,18 +777,17 @@ LIMBERLIME_FUNCTION int64_t limberlime_find_frames(struct limberlime_handle *han
     return answer != 0 ? answer : limberlime_find(limberlime_find_frames_unchecked, handle, address, frames);
 }
 
-/* Is given the answer of limberlime_find_frames to an address, and the frames where it is 0, which stay until it
- * returns. It makes no call with the handle. Answers 0 to be given the next one, or another number to stop.
+/* The caller's function that gets the answer of limberlime_find_frames for an address, and the frames if that is 0.
+ * They are valid until it returns. It makes no call with the handle. Answers 0 to go on, or another number to stop.
  */
 typedef int (*limberlime_frames_call)(void *caller, uint32_t address, int64_t answer,
                                       const struct limberlime_function_frames *frames);
 
-/* Finds the frames over a list of addresses, and hands each answer to a call of the caller's, in order.
+/* Finds the frames at each address of a list, and passes the answers to a function of the caller, in order.
  *
- * each, caller: what is given the answers, and what it is given with them.
+ * each, caller: the function that gets the answers, and the first argument that it gets.
  *
- * Answers how many addresses were asked for, which is address_count unless the caller stopped, or
- * LIMBERLIME_NULL_POINTER.
+ * Answers how many addresses it passed on, or LIMBERLIME_NULL_POINTER. They are all, unless the function stopped.
  */
 LIMBERLIME_FUNCTION int64_t limberlime_find_all_frames(struct limberlime_handle *handle, const uint32_t *addresses,
                                                        size_t address_count, limberlime_frames_call each, void *caller)
@@ -792,7 +796,7 @@ LIMBERLIME_FUNCTION int64_t limberlime_find_all_frames(struct limberlime_handle 
     int goes_on = 1;
     if (handle == NULL || addresses == NULL || each == NULL)
         return LIMBERLIME_NULL_POINTER;
-    /* Where this is refused, so is the question for the first address that lacks something. */
+    /* If this is refused, so is the question for the first address that needs more of the file. */
     (void)limberlime_read_for(handle, addresses, address_count);
     while (goes_on && asked < address_count) {
         struct limberlime_function_frames frames;
@@ -803,8 +807,8 @@ LIMBERLIME_FUNCTION int64_t limberlime_find_all_frames(struct limberlime_handle 
     return (int64_t)asked;
 }
 
-/* Finds the function over an address, as the one frame of itself, with no file and no line. All else is as of
- * limberlime_find_frames. It needs no lines, and so no LIMBERLIME_ADDRESS_REFUSED is answered.
+/* Finds the function that contains an address, as a single frame without file and line. All else is as for
+ * limberlime_find_frames. It needs no lines, so it never answers LIMBERLIME_ADDRESS_REFUSED.
  */
 LIMBERLIME_FUNCTION int64_t limberlime_find_function(struct limberlime_handle *handle, uint32_t address,
                                                      struct limberlime_function_frames *frames)
@@ -816,12 +820,13 @@ LIMBERLIME_FUNCTION int64_t limberlime_find_function(struct limberlime_handle *h
     return answer != 0 ? answer : limberlime_find(limberlime_find_function_unchecked, handle, address, frames);
 }
 
-/* Finds the next of all functions by where they start, as limberlime_find_function has it.
+/* Finds the next function by start address, as limberlime_find_function answers it. The first call for a handle looks
+ * up where all functions start.
  *
- * next: the address from which on the next start is looked for, 0 at first. Where the answer is 0 it is the one behind
- *     the start that was found.
+ * next: the lowest start to look for; 0 for the first call. If the answer is 0, it gets the address after the start
+ *     that was found.
  *
- * frames->count is 0 behind the last function. The first such question to a handle reads where all functions start.
+ * After the last function frames->count is 0.
  */
 LIMBERLIME_FUNCTION int64_t limberlime_next_function(struct limberlime_handle *handle, uint64_t *next,
                                                      struct limberlime_function_frames *frames)
@@ -850,9 +855,9 @@ LIMBERLIME_FUNCTION int64_t limberlime_next_function(struct limberlime_handle *h
     return 0;
 }
 
-/* Writes what limberlime_frames does of the bytes that the handle was opened with. The handle holds the same records
- * afterwards, also where the call is refused. Its refusals are LIMBERLIME_CLOSED_HANDLE, which stands before all others
- * but LIMBERLIME_NULL_POINTER, and those that are no fault of the bytes. All else is as of limberlime_frames.
+/* Writes the text of limberlime_frames over the records of a handle, which has the same records after the call, even if
+ * the call is refused. A closed handle is refused by LIMBERLIME_CLOSED_HANDLE, whatever the other arguments are, if
+ * none is null. All else is as for limberlime_frames.
  */
 LIMBERLIME_FUNCTION int64_t limberlime_frames_of(struct limberlime_handle *handle, const uint32_t *addresses,
                                                  size_t address_count, uint8_t *buffer, size_t capacity, size_t *wanted)
@@ -866,8 +871,7 @@ LIMBERLIME_FUNCTION int64_t limberlime_frames_of(struct limberlime_handle *handl
     return limberlime_frames_of_unchecked(handle, addresses, address_count, buffer, capacity, wanted);
 }
 
-/* Writes what limberlime_names does of the bytes that the handle was opened with. All else is as of
- * limberlime_frames_of.
+/* Writes the text of limberlime_names over the records of a handle. All else is as for limberlime_frames_of.
  */
 LIMBERLIME_FUNCTION int64_t limberlime_names_of(struct limberlime_handle *handle, const uint32_t *addresses,
                                                 size_t address_count, uint8_t *buffer, size_t capacity, size_t *wanted)
@@ -881,8 +885,8 @@ LIMBERLIME_FUNCTION int64_t limberlime_names_of(struct limberlime_handle *handle
     return limberlime_names_of_unchecked(handle, addresses, address_count, buffer, capacity, wanted);
 }
 
-/* Gives the records of a handle back, with the frames that it answered last. It is closed from then on and may be
- * opened again. Does nothing with a handle that is closed, or with a null pointer.
+/* Closes a handle: frees its records and the frames of its last answer. The handle may be opened again. It does nothing
+ * if the handle is closed or the pointer is null.
  */
 LIMBERLIME_FUNCTION void limberlime_close(struct limberlime_handle *handle)
 {
