@@ -68,9 +68,22 @@ def passes():
     return [(label, [(number(row["File"]), number(row[column])) for row in rows]) for label, column in columns]
 
 
+def beside(column):
+    """A line for each of the two programs: a column of the table beside llvm-symbolizer, over the sizes of the files."""
+    lines, size = {}, None
+    for row in table("Beside llvm-symbolizer"):
+        size = number(row["PDB file"]) if row["PDB file"] else size
+        lines.setdefault(row["Program"].strip("`"), []).append((size, number(row[column])))
+    return list(lines.items())
+
+
 def main():
     matplotlib.rcParams["svg.hashsalt"] = "limberlime"
     os.makedirs(FIGURES, exist_ok=True)
+    figure("first_answer", "PDB file, MB", [("First answer, ms", beside("First answer")),
+                                            ("Memory for the first answer, MB", beside("Memory"))])
+    figure("all_addresses", "PDB file, MB", [("All addresses, ms", beside("All addresses")),
+                                             ("Memory for all addresses, MB", beside("Memory 2"))])
     figure("passes", "Records file, MB", [("Passes over programs, ms", passes())])
 
 

@@ -5,8 +5,8 @@ Usage: symbolizer.py PROGRAM RUNS EXE..
 
 The PDB file of app.exe is app.pdb beside it. Asked for are one address in the middle of the code, and then the start and
 the middle of each function, as `--dump-syms` lists them. Both programs read addresses from standard input, by turns.
-Each time is the least of so many runs, and each memory the most. Behind llvm-symbolizer's figures stands how many times
-ours they are. The table is one of bench/RESULTS.md, from which bench/plot.py draws.
+Each time is the least of so many runs, and each memory the most. The number in parentheses after a figure of
+llvm-symbolizer is its ratio to ours. The table is one of bench/RESULTS.md, from which bench/plot.py draws.
 """
 import os
 import subprocess
@@ -18,7 +18,7 @@ from reading import functions
 
 MEGABYTE = 1_000_000
 HEADER = """\
-| PDB file | Addresses | | First answer | Memory | All addresses | Memory |
+| PDB file | Addresses | Program | First answer | Memory | All addresses | Memory |
 |---|---|---|---|---|---|---|"""
 
 
