@@ -5,9 +5,9 @@
     ...     for frame in program.find_frames(0x1136):
     ...         print(frame.function, frame.file, frame.line)
 
-Addresses are relative to where the program is loaded. The calls are those of the shared library liblimberlime.so. It is
-looked for at the path in the environment variable LIMBERLIME_LIBRARY, then in this package's folder, where a wheel has
-it, and then where the system has its libraries.
+Addresses are relative to where the program is loaded. The calls are those of the shared library liblimberlime.so. The
+package looks for it at the path in the environment variable LIMBERLIME_LIBRARY, then in its own folder, where a wheel has
+it, and then among the libraries of the system.
 """
 from __future__ import annotations
 
@@ -31,8 +31,8 @@ __all__ = ["Error", "Frame", "Frames", "Function", "Program", "Refusal", "StackF
 
 
 class Frame(NamedTuple):
-    """A function in whose code an address lies: the one that was called, or one whose body was inlined there. What is
-    not known is None, and so is a line 0."""
+    """A function whose code contains an address: the one that was called, or one that was inlined there. What is unknown
+    is None, and so is a line 0."""
 
     function: Optional[str]
     file: Optional[str]
@@ -40,7 +40,7 @@ class Frame(NamedTuple):
 
 
 class Function(NamedTuple):
-    """A function's first address, the address after its last, or None where that is not known, and its name."""
+    """A function: its first address, the address after its last one, and its name. What is unknown is None."""
 
     start: int
     end: Optional[int]
@@ -48,9 +48,9 @@ class Function(NamedTuple):
 
 
 class Frames(Sequence[Frame]):
-    """The frames over an address, the innermost inlined function first, and last the one that was called. There are
-    none where no function contains the address. `start` is the function's first address, and `end` the one after its
-    last, or None where that is not known."""
+    """The frames at an address: the innermost inlined function first, and the function that was called last. There are
+    none if no function contains the address. `start` is the first address of the function that was called, and `end` the
+    address after its last one, or None if it is unknown."""
 
     def __init__(self, frames: list[Frame], start: int, end: Optional[int]) -> None:
         self._frames = frames
@@ -71,10 +71,10 @@ class Frames(Sequence[Frame]):
 
 
 class Program:
-    """A program's records, for many questions.
+    """A program's records, for many lookups.
 
-    It is closed at the end of a `with`, by `close`, or when it is no longer used. Threads may share it: a lock lets one
-    call at a time reach the library, so questions of two threads don't run at once. For that, open the file twice.
+    It is closed at the end of a `with`, by `close`, or when it is no longer used. Threads may share it, but a lock lets
+    only one call at a time reach the library. For lookups at the same time, open the file twice.
     """
 
     def __init__(self) -> None:
@@ -83,13 +83,14 @@ class Program:
 
     @classmethod
     def open(cls, path: Union[str, os.PathLike]) -> Program:
-        """Opens the PDB file at a path. Of the file only what a question needs is read, when it is asked for; `functions`,
-        `report_frames` and `report_names` read all of it. Until the program is closed, nobody may write to the file or
-        cut it. It may be removed, or replaced by a file that is renamed to its path. Broken parts of it are left out,
-        and all else is answered. Raises OSError where the file can't be read, and Error where nothing can be answered
-        over it."""
-        program = cls()
-        answer = _calls.limberlime_open_path(os.fsencode(path), ctypes.byref(program._handle))
+        """Opens the PDB file at a path. A lookup reads only what it needs; `functions`, `report_frames` and
+        `report_names` read all of the file. Broken parts of it are left out. Until the program is closed, nobody may
+        write to the file or truncate it. It may be removed, or replaced by a file that is renamed to its path. Raises
+        OSError if the file can't be read, and Error if nothing can be answered over it."""
+        program, name = cls(), os.fsencode(path)
+        if b"\0" in name:
+            raise ValueError("a path with a null byte")
+        answer = _calls.limberlime_open_path(name, ctypes.byref(program._handle))
         if answer == Refusal.CANNOT_READ_FILE:
             with open(path, "rb"):
                 pass  # the system says here why the file can't be read
@@ -98,15 +99,15 @@ class Program:
 
     @classmethod
     def open_pdb(cls, pdb: bytes) -> Program:
-        """Reads the bytes of a PDB file. Broken parts of it are left out, and all else is answered. Raises Error where
-        nothing can be answered over it."""
+        """Reads the bytes of a PDB file. Broken parts of it are left out. Raises Error if nothing can be answered over
+        it."""
         return cls._opened(_calls.limberlime_open_pdb, pdb)
 
     @classmethod
     def open_records(cls, records: bytes, module_file: Optional[Callable[[str], bytes]] = None) -> Program:
-        """Reads the bytes of a records file. Where it names module files, `module_file` answers the bytes of each by
-        its name, which is a path from the folder of the records file, or a whole path that begins with a slash. What
-        `module_file` raises is raised."""
+        """Reads the bytes of a records file. If it names module files, `module_file` gets the name of each and returns
+        its bytes. A name that doesn't begin with a slash is relative to the folder of the records file. An exception of
+        `module_file` is raised again."""
         if module_file is None:
             return cls._opened(_calls.limberlime_open, records)
         program, files, records = cls(), _ModuleFiles(module_file), bytes(records)
@@ -125,29 +126,29 @@ class Program:
         return program
 
     def find_frames(self, address: int) -> Frames:
-        """The functions in whose code an address lies, with files and lines, the innermost inlined one first."""
+        """The functions at an address, with files and lines, the innermost inlined function first."""
         return self._found(_calls.limberlime_find_frames, _address(address))
 
     def find_function(self, address: int) -> Frames:
-        """The function in whose code an address lies, as the one frame of itself, with no file and no line."""
+        """The function that contains an address, as a single frame without file and line."""
         return self._found(_calls.limberlime_find_function, _address(address))
 
     def functions(self) -> Iterator[Function]:
-        """The functions of the program, by where they start."""
+        """The functions of the program, sorted by start address."""
         following = ctypes.c_uint64(0)
         while found := self._found(_calls.limberlime_next_function, ctypes.byref(following)):
             yield Function(found.start, found.end, found[0].function)
 
     def report_frames(self, addresses: Sequence[int]) -> str:
-        """The text that `pdb_report RECORDS frames ADDRESS..` prints of these addresses."""
+        """The text that `pdb_report RECORDS frames ADDRESS..` prints for these addresses."""
         return self._report(_calls.limberlime_frames_of, addresses)
 
     def report_names(self, addresses: Sequence[int]) -> str:
-        """The text that `pdb_report RECORDS names ADDRESS..` prints of these addresses."""
+        """The text that `pdb_report RECORDS names ADDRESS..` prints for these addresses."""
         return self._report(_calls.limberlime_names_of, addresses)
 
     def close(self) -> None:
-        """Frees the records. Each question afterwards raises Error."""
+        """Frees the records. Each later lookup raises Error."""
         with self._lock:
             _calls.limberlime_close(ctypes.byref(self._handle))
 
@@ -162,7 +163,7 @@ class Program:
 
     def _found(self, call, asked) -> Frames:
         found = _FunctionFrames()
-        # Frames stay until the next call with the handle, so they are copied before another thread may make one.
+        # Frames are valid until the next call with the handle, so they are copied before another thread can make one.
         with self._lock:
             _answered(call(ctypes.byref(self._handle), asked, ctypes.byref(found)))
             frames = [_frame(found.frames[index]) for index in range(found.count)]
@@ -175,14 +176,14 @@ class Program:
 
 
 class _ModuleFiles:
-    """Passes module files to the library by their names, and holds the bytes of the last one."""
+    """Passes module files to the library by their names, and keeps the bytes of the last one."""
 
     def __init__(self, read: Callable[[str], bytes]) -> None:
         self._read, self._bytes = read, b""
         self.error: Optional[Exception] = None
-        self.call = _ModuleFileCall(self._hand_in)
+        self.call = _ModuleFileCall(self._pass)
 
-    def _hand_in(self, _caller, name: bytes, data, length) -> int:
+    def _pass(self, _caller, name: bytes, data, length) -> int:
         try:
             self._bytes = bytes(self._read(name.decode()))
         except Exception as error:  # it is raised again after the library's call
@@ -194,14 +195,14 @@ class _ModuleFiles:
 
 
 def debug_id(pdb: bytes) -> str:
-    """The debug id of a PDB file, by which a program, a symbol server and a crash report name it."""
+    """The debug id of a PDB file, by which programs, symbol servers and crash reports name it."""
     pdb = bytes(pdb)
     return _text_of(lambda *buffer: _calls.limberlime_debug_id(pdb, len(pdb), *buffer))
 
 
 def machine(pdb: bytes) -> int:
-    """The number of the processor that a PDB file's program is for, as programs have it: 0x8664 for x86_64, 0x14c for
-    x86, 0xaa64 for Arm64, and 0 where the file doesn't say it."""
+    """The machine type of a PDB file's program, by its number in program headers: 0x8664 for x86_64, 0x14c for x86,
+    0xaa64 for Arm64, and 0 if the file doesn't say it."""
     pdb = bytes(pdb)
     return _answered(_calls.limberlime_machine(pdb, len(pdb)))
 
@@ -214,7 +215,7 @@ def version() -> tuple[int, int, int]:
 
 def _address(address: int) -> int:
     if not 0 <= address < 2**32:
-        raise ValueError(f"an address is a number of 32 bits, and {address} is none")
+        raise ValueError(f"{address} is not an address: it must be from 0 to 2**32 - 1")
     return address
 
 

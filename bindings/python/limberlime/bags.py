@@ -3,8 +3,8 @@
 A stack is a list of frames, and a frame is the name of a PDB file, its debug id, and an offset from where its program
 is loaded. PDB files are in a folder as symbol servers have them: STORE/app.pdb/DEBUGID/app.pdb.
 
-First each partition of the bag lists its different frames, by PDB file. Then each PDB file is opened in one task, which
-looks up the offsets of all partitions. At last each partition puts the answers into its stacks.
+First each partition of the bag lists its different frames, by PDB file. Then one task for each PDB file opens it and
+looks up the offsets of all partitions. Last, each partition puts the answers into its stacks.
 
 A task costs the scheduler about a millisecond. So a task's result is split into few pieces: a group takes what it needs
 from all that a partition asks for, and the answers for several partitions are one bundle.
@@ -35,7 +35,7 @@ NEEDED = ("limberlime.symbolicate_bag needs Dask: install Debian's package pytho
           "`pip install dask distributed`")
 DEBUG_ID = re.compile("[0-9a-fA-F]{33,40}")
 
-# A PDB file: its name and its debug id, as stacks have them. By these it has the offsets that are asked for.
+# A PDB file: its name and its debug id, as stacks have them. And the offsets to look up, by PDB file.
 File = Tuple[str, str]
 Asked = Dict[File, List[int]]
 # What is known at an offset: function, file, line, and what is inlined there.
@@ -46,9 +46,9 @@ NOWHERE: Place = (None, None, None, ())
 class StackFrame(NamedTuple):
     """What is known of a frame of a stack.
 
-    `pdb`, `debug_id` and `offset` are those of the frame. `found` says whether the store has a PDB file of this debug
-    id that can be read. `function`, `file` and `line` are those of the function whose code contains the offset, and
-    `inlined` has the functions that are inlined there, the innermost first. What is not known is None."""
+    `pdb`, `debug_id` and `offset` are those of the frame. `found` says whether the store has a PDB file with this debug
+    id that can be read. `function`, `file` and `line` belong to the function that contains the offset, and `inlined` has
+    the functions that are inlined there, the innermost first. What is unknown is None."""
 
     pdb: str
     debug_id: str
@@ -73,17 +73,17 @@ Answers = Dict[File, FileAnswers]
 
 def symbolicate_bag(bag: dask.bag.Bag, store: os.PathLike, *, groups: Optional[int] = None,
                     tasks_per_file: int = 1) -> dask.bag.Bag:
-    """The stacks of a bag with each frame answered.
+    """Looks up the frames of all stacks in a bag.
 
     An element of `bag` is a stack: a list of frames (name of the PDB file, debug id, offset). An element of the result
     is a list of StackFrame. The result has as many partitions as `bag`, and the same stacks in the same order, each
     with its frames in the same order.
 
-    Workers read PDB files from the folder `store`, each file in `tasks_per_file` tasks at most: with 1, the default,
-    one task looks up all offsets of a file. Files are spread over `groups` tasks: a third as many as `bag` has
-    partitions, but at most 64, where it is None. A worker keeps the last 64 files that it opened.
+    Workers read PDB files from the folder `store`. At most `tasks_per_file` tasks look up the offsets of one file.
+    `groups` is the number of tasks that look up offsets; each has several files. If it is None, there are a third as
+    many as `bag` has partitions, but at most 64. A worker keeps the last 64 files that it opened.
 
-    Nothing is computed before the result is. Then all stacks are in the workers' memory until all are answered.
+    Nothing is computed until the result is. Then all stacks are in the workers' memory until all are answered.
     """
     try:
         import dask
@@ -102,7 +102,7 @@ def symbolicate_bag(bag: dask.bag.Bag, store: os.PathLike, *, groups: Optional[i
 
 
 def _asked(stacks: Iterable, groups: int, tasks_per_file: int) -> List[Asked]:
-    """The offsets that stacks ask for, by group and PDB file, each once and in ascending order."""
+    """The offsets of stacks by group and PDB file, each once and in ascending order."""
     offsets = collections.defaultdict(set)
     for stack in stacks:
         for pdb, debug_id, offset in stack:
@@ -111,13 +111,13 @@ def _asked(stacks: Iterable, groups: int, tasks_per_file: int) -> List[Asked]:
     for file, some in offsets.items():
         first = _number(file)
         for offset in sorted(some):
-            # Offsets of one page belong to one task: what was read for one often answers the next.
+            # Offsets of one page belong to one task, because what was read for one often answers the next.
             asked[(first + (offset >> PAGE_BITS) % tasks_per_file) % groups][file].append(offset)
     return asked
 
 
 def _number(file: File) -> int:
-    """A number of a PDB file, which is the same in all processes."""
+    """A number for a PDB file, the same in all processes."""
     return zlib.crc32(f"{file[0]}/{file[1].upper()}".encode("utf-8", "replace"))
 
 
@@ -143,7 +143,7 @@ def _file_answers(store: str, file: File, offsets: List[int]) -> FileAnswers:
 
 
 def _place(program: Optional[limberlime.Program], offset: int) -> Place:
-    """What is known at an offset. One that has more than 32 bits is in no function."""
+    """What is known at an offset. An offset of more than 32 bits is in no function."""
     frames = program.find_frames(offset) if program and 0 <= offset < 2**32 else ()
     if not frames:
         return NOWHERE
@@ -152,7 +152,7 @@ def _place(program: Optional[limberlime.Program], offset: int) -> Place:
 
 
 def _part(known: FileAnswers, offsets: List[int]) -> FileAnswers:
-    """The answers at some of the offsets, with no other places. So little is sent from one worker to another."""
+    """The answers at some of the offsets, without other places, so that little is sent between workers."""
     numbers: Dict[int, int] = {}
     part = {offset: numbers.setdefault(known.numbers[offset], len(numbers)) for offset in offsets}
     return FileAnswers(known.found, [known.places[number] for number in numbers], part)
@@ -171,7 +171,7 @@ def _joined(stacks: List, bundles: List[List[bytes]], position: int) -> List[Lis
 
 
 def _path(store: str, file: File) -> Optional[pathlib.Path]:
-    """Where a store has a PDB file. A name that would lead out of the store has no place there."""
+    """The path of a PDB file in a store. A name that would lead out of the store has none."""
     name, debug_id = file
     if name in ("", ".", "..") or any(mark in name for mark in "/\\:\0") or not DEBUG_ID.fullmatch(debug_id):
         return None
@@ -179,7 +179,7 @@ def _path(store: str, file: File) -> Optional[pathlib.Path]:
 
 
 def _opened(store: str, file: File) -> Optional[limberlime.Program]:
-    """Opens a PDB file of a store. There is None if it is missing, can't be read, or is of another build."""
+    """Opens a PDB file of a store. Returns None if it is missing, can't be read, or belongs to another build."""
     path = _path(store, file)
     try:
         data = path.read_bytes() if path else b""
@@ -195,7 +195,7 @@ def _opened(store: str, file: File) -> Optional[limberlime.Program]:
 
 
 class _Slot:
-    """A PDB file that is opened once, by the first thread that needs it. One that can't be opened is tried again."""
+    """A PDB file that the first thread that needs it opens. If that fails, the next one tries again."""
 
     def __init__(self) -> None:
         self.lock, self.opened, self.program = threading.Lock(), False, None
@@ -208,7 +208,7 @@ class _Programs:
         self._lock, self._slots = threading.Lock(), collections.OrderedDict()
 
     def get(self, store: str, file: File) -> Optional[limberlime.Program]:
-        """A PDB file, which is opened unless it is kept."""
+        """A PDB file. It is opened if it isn't kept."""
         key = store, file[0], file[1].upper()
         with self._lock:
             slot = self._slots.setdefault(key, _Slot())

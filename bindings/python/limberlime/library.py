@@ -42,7 +42,7 @@ class FunctionFrames(ctypes.Structure):
                 ("end", ctypes.c_uint32), ("end_known", ctypes.c_uint32)]
 
 
-# caller, name, where the file's bytes and their number are put
+# Its arguments are the caller, the name, and where to put the file's bytes and their number.
 ModuleFileCall = ctypes.CFUNCTYPE(ctypes.c_int, ctypes.c_void_p, ctypes.c_char_p, ctypes.POINTER(ctypes.c_void_p),
                                   ctypes.POINTER(ctypes.c_size_t))
 
@@ -53,7 +53,7 @@ def closed() -> Handle:
 
 
 def _path() -> str:
-    """Where the library is: at LIMBERLIME_LIBRARY, beside this file as in a wheel, or among the system's libraries."""
+    """The path of the library: from LIMBERLIME_LIBRARY, next to this file as in a wheel, or among the system's."""
     beside = pathlib.Path(__file__).with_name("liblimberlime.so")
     found = os.environ.get("LIMBERLIME_LIBRARY") or (str(beside) if beside.exists() else "")
     found = found or ctypes.util.find_library("limberlime")
@@ -71,7 +71,8 @@ def _load() -> ctypes.CDLL:
     addresses = [ctypes.POINTER(ctypes.c_uint32), size]
     calls = {
         "open": [*text, handle], "open_records": [*text, ModuleFileCall, ctypes.c_void_p, handle],
-        "open_pdb": [*text, handle], "open_path": [ctypes.c_char_p, handle], "debug_id": [*text, *buffer], "machine": text, "version": [],
+        "open_pdb": [*text, handle], "open_path": [ctypes.c_char_p, handle],
+        "debug_id": [*text, *buffer], "machine": text, "version": [],
         "frames_of": [handle, *addresses, *buffer], "names_of": [handle, *addresses, *buffer],
         "find_frames": [handle, ctypes.c_uint32, ctypes.POINTER(FunctionFrames)],
         "find_function": [handle, ctypes.c_uint32, ctypes.POINTER(FunctionFrames)],
@@ -90,14 +91,14 @@ calls = _load()
 
 
 def answered(answer: int) -> int:
-    """What a call answered. Raises Error where that is a refusal."""
+    """The number that a call answered. Raises Error if it is a refusal."""
     if answer < 0:
         raise Error(answer, calls.limberlime_refusal_text(answer).decode())
     return answer
 
 
 def text_of(call) -> str:
-    """The text that a call writes into a buffer, which is as large as is wanted."""
+    """The text that a call writes to a buffer. If the buffer is too small, the call says how long the text is."""
     wanted, capacity = ctypes.c_size_t(), _FIRST_BYTES
     answer = int(Refusal.BUFFER_TOO_SMALL)
     while answer == Refusal.BUFFER_TOO_SMALL:

@@ -35,8 +35,8 @@ class Refusal(enum.IntEnum):
 
 
 class Error(Exception):
-    """A call has no answer. `refusal` says why, as a Refusal; it is a plain number where a later library has one that
-    this module doesn't know."""
+    """A call has no answer. `refusal` says why. It is a Refusal, or a plain number if a later library has one that this
+    module doesn't know."""
 
     def __init__(self, number: int, text: str) -> None:
         super().__init__(text or f"unknown refusal {number}")

@@ -1,18 +1,18 @@
-//! The library's calls with Rust's types. `include/limberlime.h` says what they mean, and what a caller owes.
+//! The library's calls with Rust's types. `include/limberlime.h` says what they mean, and what callers must ensure.
 
 use crate::errors::Error;
 use crate::frames::Frames;
 use std::ffi::c_void;
 use std::ptr;
 
-/// The handle of an opening. Its pointers are the library's alone, and the second is null where it is closed.
+/// A handle. Only the library uses its pointers. The second is null if the handle is closed.
 #[repr(C)]
 pub(crate) struct Handle {
     records: *mut c_void,
     context: *mut c_void,
 }
 
-/// Where a text stands among the texts of an answer. One that isn't known starts at the greatest number there is.
+/// Where a text is among the texts of an answer. A text that is unknown starts at `usize::MAX`.
 #[repr(C)]
 #[derive(Clone, Copy, Default)]
 pub(crate) struct Place {
@@ -149,7 +149,7 @@ extern "C" {
     fn limberlime_version_unchecked() -> i64;
 }
 
-/// The number that is answered if an answer doesn't fit the buffers.
+/// The number that a call answers if the buffers are too small.
 const BUFFER_TOO_SMALL: i64 = -9;
 
 /// The sizes of the first buffers. Most answers fit.
@@ -159,8 +159,8 @@ const FIRST_BYTES: usize = 1024;
 /// A debug id has 32 digits, and up to eight of the age.
 const DEBUG_ID_BYTES: usize = 40;
 
-// The library proves that a handle may go to another thread. It may be given to one call at a time, so no call takes it
-// by `&self`, and threads don't share it.
+// The library proves that a handle may go to another thread. Only one call at a time may use it, so no call takes it by
+// `&self`, and threads can't share it.
 unsafe impl Send for Handle {}
 
 impl Handle {
@@ -178,8 +178,8 @@ impl Handle {
         length_of(answer).map(|_| handle)
     }
 
-    /// Reads what answers at these addresses need of a PDB file. There is a flag for each module then: 1 if it was read.
-    /// There are no flags once all of the file was read.
+    /// Reads what answers at these addresses need of a PDB file. After that there is a flag for each module, 1 if it was
+    /// read. There are no flags if all of the file was read.
     pub(crate) fn open_part(
         &mut self,
         pdb: &[u8],
@@ -214,7 +214,7 @@ impl Handle {
         Ok(())
     }
 
-    /// Whether the module whose code lies at an address was read, by these flags.
+    /// Whether the module that has the code at an address was read, by these flags.
     pub(crate) fn is_read(&mut self, address: u32, flags: &[u8]) -> Result<bool, Error> {
         // SAFETY: the pointer is the slice's, with its length; the library alone writes the handle, which this call
         // borrows alone.
@@ -300,7 +300,7 @@ pub(crate) fn debug_id(pdb: &[u8]) -> Result<String, Error> {
     })
 }
 
-/// The names of the module files that a records file wants, each with a 0 behind it.
+/// The names of the module files that a records file names, each followed by a 0.
 fn module_files(records: &[u8]) -> Result<String, Error> {
     text_of(FIRST_BYTES, |buffer, wanted| {
         // SAFETY: the pointers are the slices' and the reference's, with their lengths.
@@ -316,7 +316,7 @@ fn module_files(records: &[u8]) -> Result<String, Error> {
     })
 }
 
-/// The number of the processor that a PDB file's program is for.
+/// The machine type of a PDB file's program.
 pub(crate) fn machine(pdb: &[u8]) -> Result<u16, Error> {
     // SAFETY: the pointer is the slice's, with its length.
     let answer = unsafe { limberlime_machine_unchecked(pdb.as_ptr(), pdb.len()) };
@@ -325,17 +325,17 @@ pub(crate) fn machine(pdb: &[u8]) -> Result<u16, Error> {
 
 /// The version of the library, whose number is major * 1000000 + minor * 1000 + patch.
 pub(crate) fn version() -> (u32, u32, u32) {
-    // SAFETY: the call takes nothing, and only answers.
+    // SAFETY: the call has no arguments.
     let number = u32::try_from(unsafe { limberlime_version_unchecked() }).unwrap_or(0);
     (number / 1_000_000, number / 1000 % 1000, number % 1000)
 }
 
-/// A length that was answered, or the error of its number.
+/// The length that a call answered, or the error with the number that it answered.
 fn length_of(answer: i64) -> Result<usize, Error> {
     usize::try_from(answer).map_err(|_| Error::of_number(answer))
 }
 
-/// The text of a call. Where the first buffer is too small, the call has said the length that is wanted.
+/// The text that a call writes. If the first buffer is too small, the call says how long the text is.
 fn text_of(capacity: usize, mut call: impl FnMut(&mut [u8], &mut usize) -> i64) -> Result<String, Error> {
     let mut buffer = vec![0; capacity];
     let mut wanted = 0;
@@ -348,7 +348,7 @@ fn text_of(capacity: usize, mut call: impl FnMut(&mut [u8], &mut usize) -> i64) 
     Ok(String::from_utf8_lossy(&buffer).into_owned())
 }
 
-/// What is asked about an address.
+/// The question about an address.
 #[derive(Clone, Copy)]
 pub(crate) enum FindCall {
     Frames,
@@ -380,7 +380,7 @@ impl Buffers {
         }
     }
 
-    /// Asks about an address, with larger buffers if the answer doesn't fit.
+    /// Asks about an address. If the answer doesn't fit, asks again with larger buffers.
     pub(crate) fn find(
         &mut self,
         handle: &mut Handle,

@@ -8,53 +8,52 @@ use std::fmt;
 pub enum Error {
     /// No addresses were given.
     NoAddresses,
-    /// The bytes are no JSON text.
+    /// The bytes are not a JSON text.
     NotJson,
-    /// The JSON text holds no records.
+    /// The JSON text has no records: a value is missing, of the wrong kind, or out of range.
     NoRecords,
-    /// The records file names module files, and [`open_records_with`](crate::Program::open_records_with) alone takes
-    /// these.
+    /// The records file names module files, which only [`open_records_with`](crate::Program::open_records_with) reads.
     ModuleFiles,
-    /// The records are refused, as where two modules claim the same bytes.
+    /// The records are refused, for example because two modules claim the same bytes.
     RecordsRefused,
-    /// The records of an address's module are refused.
+    /// The records of an address's module are broken.
     AddressRefused,
     /// Memory ran out. The same call may succeed later.
     OutOfMemory,
-    /// The bytes are no PDB file.
+    /// The bytes are not a PDB file.
     NotAPdbFile,
-    /// The bytes are a program or a library, not its PDB file.
+    /// The bytes are a program (EXE or DLL), not its PDB file.
     Program,
-    /// The bytes are the debugging records of a program for .NET.
+    /// The bytes are a portable PDB file, which a program for .NET has.
     PortablePdb,
-    /// The bytes are a compressed file.
+    /// The bytes are a compressed file from a symbol store.
     Compressed,
-    /// The bytes are a PDB file of the version before 7.00.
+    /// The bytes are a PDB file of version 2.00, which has another format.
     OldPdbFile,
-    /// The bytes end before the file's directory of streams does.
+    /// The bytes end before the end of the file's directory of streams.
     CutShort,
-    /// The streams of the PDB file are longer than it together.
+    /// The streams of the PDB file are together longer than the file.
     StreamsTooLong,
-    /// The PDB file is a compiler's, of objects and not of a program.
+    /// The PDB file describes the objects of a compiler, not a program.
     OfObjects,
-    /// The types of the PDB file have a form from before 2005. No call answers this: functions then go by the names of
+    /// The types of the PDB file have a form from before 2005. No call returns this: functions then have the names of
     /// their symbols.
     OldTypes,
-    /// The PDB file was stripped of what says where code lies.
+    /// The PDB file has no section headers, so nothing says where code is.
     NoSectionHeaders,
-    /// Addresses were rearranged after linking.
+    /// Code was rearranged after linking (OMAP), and answers would have wrong addresses.
     Rearranged,
-    /// A stream is broken that nothing can be answered without.
+    /// A stream that all answers need is broken.
     BrokenStream,
-    /// The PDB file doesn't say which build it is of.
+    /// The PDB file has no debug id, so nothing says which build it belongs to.
     NoDebugId,
-    /// The caller can't read a module file that the records file names.
+    /// The caller's function can't read a module file that the records file names.
     CannotReadModule,
     /// A number that this version doesn't know.
     Unknown(i64),
 }
 
-/// Each error with the number that the library answers for it, and its text.
+/// Each error, with its number in the library and its message.
 const ERRORS: [(i64, Error, &str); 21] = [
     (-2, Error::NoAddresses, "no addresses"),
     (-3, Error::NotJson, "not a JSON text"),
@@ -96,7 +95,7 @@ const ERRORS: [(i64, Error, &str); 21] = [
 ];
 
 impl Error {
-    /// The error that the library answers as this number.
+    /// The error with this number.
     pub(crate) fn of_number(number: i64) -> Error {
         ERRORS
             .iter()

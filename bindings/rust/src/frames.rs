@@ -1,21 +1,21 @@
-//! Frames, as the rows and the texts that the library wrote show them.
+//! Frames, made from the rows and the texts that the library wrote.
 
 use crate::calls::{Found, Place, Row};
 use std::iter::FusedIterator;
 use std::{fmt, slice, str};
 
-/// A function in whose code an address lies: the one that was called, or one whose body was inlined there.
+/// A function whose code contains an address: the one that was called, or one that was inlined there.
 #[derive(Debug, Clone, Copy, PartialEq, Eq, Hash)]
 pub struct Frame<'a> {
-    /// The function's name, where one is known: its signature, or the name of its symbol where that can't be printed.
+    /// The function's name, if it is known: its signature, or the name of its symbol if the signature can't be printed.
     pub function: Option<&'a str>,
-    /// The source file that the code comes from, where it is known.
+    /// The source file of the code, if it is known.
     pub file: Option<&'a str>,
-    /// The line in that file, where it is known and isn't 0.
+    /// The line in that file, if it is known and isn't 0.
     pub line: Option<u32>,
 }
 
-/// The frames over an address, the innermost inlined function first, and last the one that was called.
+/// The frames at an address: the innermost inlined function first, and the function that was called last.
 #[derive(Clone, Copy)]
 pub struct Frames<'a> {
     rows: &'a [Row],
@@ -24,7 +24,7 @@ pub struct Frames<'a> {
 }
 
 impl<'a> Frames<'a> {
-    /// What the library wrote, by its sizes.
+    /// Frames over what the library wrote. `found` says how much of the buffers that is.
     pub(crate) fn new(rows: &'a [Row], texts: &'a [u8], found: Found) -> Self {
         Frames {
             rows: &rows[..found.rows],
@@ -33,12 +33,12 @@ impl<'a> Frames<'a> {
         }
     }
 
-    /// Where the function starts, relative to where the program is loaded. It is 0 where there are no frames.
+    /// Where the function starts, relative to where the program is loaded. It is 0 if there are no frames.
     pub fn start(&self) -> u32 {
         self.found.start
     }
 
-    /// The address of the first byte behind the function, where it is known.
+    /// The address of the first byte after the function, if it is known.
     pub fn end(&self) -> Option<u32> {
         (self.found.end_known != 0).then_some(self.found.end)
     }
@@ -48,12 +48,12 @@ impl<'a> Frames<'a> {
         self.rows.len()
     }
 
-    /// Whether no function lies over the address.
+    /// Whether no function contains the address.
     pub fn is_empty(&self) -> bool {
         self.rows.is_empty()
     }
 
-    /// The frames, from inside to outside.
+    /// The frames, the innermost one first.
     pub fn iter(&self) -> Iter<'a> {
         Iter {
             rows: self.rows.iter(),
@@ -86,7 +86,7 @@ impl<'a> IntoIterator for &Frames<'a> {
     }
 }
 
-/// The frames over an address, one by one.
+/// The frames at an address, one by one.
 #[derive(Clone)]
 pub struct Iter<'a> {
     rows: slice::Iter<'a, Row>,
@@ -103,7 +103,7 @@ impl<'a> Iter<'a> {
     }
 }
 
-/// The text at a place, where it is known. The library writes UTF-8, within its texts.
+/// The text at a place, if it is known. The library writes UTF-8.
 fn text(texts: &[u8], place: Place) -> Option<&str> {
     let end = place.start.checked_add(place.length)?;
     str::from_utf8(texts.get(place.start..end)?).ok()

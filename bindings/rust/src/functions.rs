@@ -1,4 +1,4 @@
-//! The functions of a program, by where they start.
+//! The functions of a program, sorted by start address.
 
 use crate::errors::Error;
 use crate::frames::Frames;
@@ -10,14 +10,14 @@ use std::iter::FusedIterator;
 pub struct Function {
     /// Where it starts.
     pub start: u32,
-    /// The address of the first byte behind it, where it is known.
+    /// The address of the first byte after it, if it is known.
     pub end: Option<u32>,
-    /// Its name, where one is known.
+    /// Its name, if it is known.
     pub name: Option<String>,
 }
 
 impl Function {
-    /// The function that was found, if one was.
+    /// The function that a lookup found, if it found one.
     fn of(found: Frames<'_>) -> Option<Function> {
         found.iter().next().map(|frame| Function {
             start: found.start(),
@@ -27,11 +27,11 @@ impl Function {
     }
 }
 
-/// The functions of a program, one by one. Behind a refusal there are no more.
+/// The functions of a program, one by one. After an error there are no more.
 #[derive(Debug)]
 pub struct Functions<'p> {
     program: &'p mut Program,
-    /// The first address that wasn't looked at yet.
+    /// The lowest start that the next function may have. `None` after the last function.
     next: Option<u32>,
 }
 
@@ -43,7 +43,7 @@ impl<'p> Functions<'p> {
         }
     }
 
-    /// The first function that starts at an address or behind it.
+    /// The first function that starts at or after an address.
     fn from(&mut self, address: u32) -> Result<Option<Function>, Error> {
         let mut untried = Some(address);
         while let Some(address) = untried {

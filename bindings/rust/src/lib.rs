@@ -32,9 +32,9 @@ use calls::{Buffers, FindCall, Handle};
 use parts::{Left, PartFile};
 use std::fmt;
 
-/// A program's records, for many questions. They are freed when this is dropped.
+/// A program's records, for many lookups. They are freed when this is dropped.
 ///
-/// It may go to another thread, and one question at a time is put to it:
+/// It may go to another thread, but threads can't share it:
 ///
 /// ```
 /// fn goes_to_another_thread<T: Send>() {}
@@ -53,12 +53,13 @@ pub struct Program {
 }
 
 impl Program {
-    /// Reads the records in the bytes of a PDB file, which aren't needed any more afterwards. What of the file is
-    /// broken is left out, and all else is answered.
+    /// Reads all records in the bytes of a PDB file. The bytes may be freed after that. Broken parts of the file are
+    /// left out.
     ///
     /// # Errors
     ///
-    /// What the bytes are that are no PDB file of a program; or why nothing can be answered over them:
+    /// The error says what the bytes are if they are not the PDB file of a program, or why nothing can be answered over
+    /// them:
     ///
     /// ```
     /// use limberlime::{Error, Program};
@@ -70,9 +71,9 @@ impl Program {
         Ok(Program::of(Handle::open_pdb(pdb)?))
     }
 
-    /// Opens a PDB file by its bytes, such as a vector or a memory map, and keeps them. Of the file only what a question
-    /// needs is read, when it is asked for; [`Program::functions`], [`Program::report_frames`] and
-    /// [`Program::report_names`] read all of it. What of the file is broken is left out, and all else is answered.
+    /// Opens a PDB file by its bytes, such as a vector or a memory map, and keeps them. A lookup reads only what it
+    /// needs. [`Program::functions`], [`Program::report_frames`] and [`Program::report_names`] read all of the file.
+    /// Broken parts of the file are left out.
     ///
     /// # Errors
     ///
@@ -99,19 +100,19 @@ impl Program {
     ///
     /// # Errors
     ///
-    /// [`Error::NotJson`], [`Error::NoRecords`] and [`Error::ModuleFiles`] for the file's own faults, and
-    /// [`Error::RecordsRefused`] where the records of the whole program are refused.
+    /// [`Error::NotJson`], [`Error::NoRecords`] or [`Error::ModuleFiles`] if the bytes are not such a file.
+    /// [`Error::RecordsRefused`] if nothing can be answered over its records.
     pub fn open_records(records: &[u8]) -> Result<Program, Error> {
         Ok(Program::of(Handle::open_records(records)?))
     }
 
-    /// Reads the records in the bytes of a records file and of the module files that it names. Each of these is handed
-    /// in by its name, in the order in which the file names them: a path by itself where it begins with a slash, and
-    /// else from the folder of the records file on.
+    /// Reads the records in the bytes of a records file and of the module files that it names. `module_file` gets the
+    /// name of each module file, in the order in which the records file names them, and returns its bytes. A name that
+    /// doesn't begin with a slash is relative to the folder of the records file.
     ///
     /// # Errors
     ///
-    /// [`Error::CannotReadModule`] where a module file isn't handed in, and those of [`Program::open_records`].
+    /// [`Error::CannotReadModule`] if `module_file` returns `None`, and the errors of [`Program::open_records`].
     pub fn open_records_with(
         records: &[u8],
         module_file: impl FnMut(&str) -> Option<Vec<u8>>,
@@ -127,7 +128,7 @@ impl Program {
         }
     }
 
-    /// Reads what is missing for an answer at an address.
+    /// Reads what an answer at an address still needs.
     fn read_for(&mut self, address: u32) -> Result<(), Error> {
         if let Some(file) = &mut self.file {
             if file.read_for(&mut self.handle, address)? == Left::Nothing {
@@ -137,7 +138,7 @@ impl Program {
         Ok(())
     }
 
-    /// Reads all that is missing.
+    /// Reads the rest of the file.
     fn read_whole(&mut self) -> Result<(), Error> {
         if let Some(file) = &self.file {
             file.read_whole(&mut self.handle)?;
@@ -146,19 +147,18 @@ impl Program {
         Ok(())
     }
 
-    /// The functions in whose code an address lies, with files and lines, the innermost inlined one first. There are
-    /// none where no function lies there.
+    /// The functions at an address, with files and lines, the innermost inlined function first. There are none if no
+    /// function contains the address.
     ///
     /// # Errors
     ///
-    /// [`Error::AddressRefused`] where the records of the address's module are refused, and
-    /// [`Error::OutOfMemory`].
+    /// [`Error::AddressRefused`] if the records of the address's module are broken, and [`Error::OutOfMemory`].
     pub fn find_frames(&mut self, address: u32) -> Result<Frames<'_>, Error> {
         self.read_for(address)?;
         self.buffers.find(&mut self.handle, FindCall::Frames, address)
     }
 
-    /// The function in whose code an address lies, as the one frame of itself, with no file and no line.
+    /// The function that contains an address, as a single frame without file and line.
     ///
     /// # Errors
     ///
@@ -179,7 +179,7 @@ impl Program {
         self.buffers.find(&mut self.handle, FindCall::Function, address)
     }
 
-    /// The functions of the program, by where they start.
+    /// The functions of the program, sorted by start address.
     ///
     /// ```
     /// # fn main() -> Result<(), Box<dyn std::error::Error>> {
@@ -194,7 +194,7 @@ impl Program {
         Functions::of(self)
     }
 
-    /// The first address from this one on at which a function starts.
+    /// The first address at or after this one at which a function starts.
     fn next_start(&mut self, address: u32) -> Result<Option<u32>, Error> {
         self.read_whole()?;
         let found = self
@@ -203,18 +203,18 @@ impl Program {
         Ok((!found.is_empty()).then_some(found.start()))
     }
 
-    /// The text that `pdb_report RECORDS frames ADDRESS..` prints of these addresses.
+    /// The text that `pdb_report RECORDS frames ADDRESS..` prints for these addresses.
     ///
     /// # Errors
     ///
-    /// [`Error::NoAddresses`], [`Error::AddressRefused`] where one of them is refused, and
+    /// [`Error::NoAddresses`], [`Error::AddressRefused`] if the records of a module of theirs are broken, and
     /// [`Error::OutOfMemory`].
     pub fn report_frames(&mut self, addresses: &[u32]) -> Result<String, Error> {
         self.read_whole()?;
         self.handle.report_frames(addresses)
     }
 
-    /// The text that `pdb_report RECORDS names ADDRESS..` prints of these addresses.
+    /// The text that `pdb_report RECORDS names ADDRESS..` prints for these addresses.
     ///
     /// # Errors
     ///
@@ -231,12 +231,11 @@ impl fmt::Debug for Program {
     }
 }
 
-/// The debug id of a PDB file, by which a program, a symbol server and a crash report name it: 32 digits, and behind
-/// them the age.
+/// The debug id of a PDB file, by which programs, symbol servers and crash reports name it: 32 digits, then the age.
 ///
 /// # Errors
 ///
-/// [`Error::NoDebugId`] where the file doesn't say it, or what the bytes are that are no PDB file.
+/// [`Error::NoDebugId`] if the file has none. If the bytes are not a PDB file, the error says what they are.
 ///
 /// ```
 /// # fn main() -> Result<(), Box<dyn std::error::Error>> {
@@ -249,12 +248,13 @@ pub fn debug_id(pdb: &[u8]) -> Result<String, Error> {
     calls::debug_id(pdb)
 }
 
-/// The number of the processor that a PDB file's program is for, as programs have it: 0x8664 for x86_64, 0x14c for x86,
-/// 0xaa64 for Arm64. It is 0 where the file doesn't say it.
+/// The machine type of a PDB file's program, by its number in program headers: 0x8664 for x86_64, 0x14c for x86, 0xaa64
+/// for Arm64. It is 0 if the file doesn't say it.
 ///
 /// # Errors
 ///
-/// [`Error::NoDebugId`] where the file doesn't say which build it is of, or what the bytes are that are no PDB file.
+/// [`Error::NoDebugId`] if the file doesn't say which build it belongs to. If the bytes are not a PDB file, the error
+/// says what they are.
 pub fn machine(pdb: &[u8]) -> Result<u16, Error> {
     calls::machine(pdb)
 }

@@ -3,8 +3,8 @@
 use crate::calls::Handle;
 use crate::errors::Error;
 
-/// How often parts of a file are read. Each time, the tables of a context are made anew, so the next time all of the
-/// file is read.
+/// How often parts of a file are read. Each time, the tables of a context are built again, so after this many times all
+/// of the file is read.
 const ROUNDS: u32 = 16;
 
 /// The bytes of a file, whoever owns them.
@@ -13,14 +13,14 @@ type Bytes = Box<dyn AsRef<[u8]> + Send>;
 /// A PDB file of which only parts were read so far.
 pub(crate) struct PartFile {
     bytes: Bytes,
-    /// For each module of the file 1 if it was read, and else 0.
+    /// A flag for each module of the file: 1 if it was read, and else 0.
     flags: Vec<u8>,
     /// The addresses for which parts were read.
     addresses: Vec<u32>,
     rounds: u32,
 }
 
-/// What is left to be read of a file.
+/// What of a file wasn't read yet.
 #[derive(Clone, Copy, PartialEq, Eq)]
 pub(crate) enum Left {
     Nothing,
@@ -38,7 +38,7 @@ impl PartFile {
         }
     }
 
-    /// Reads what answers at the file's addresses need.
+    /// Reads what answers at all addresses that were asked for need.
     pub(crate) fn read_part(&mut self, handle: &mut Handle) -> Result<Left, Error> {
         handle.open_part((*self.bytes).as_ref(), &self.addresses, &mut self.flags)?;
         Ok(if self.flags.is_empty() {
@@ -54,7 +54,7 @@ impl PartFile {
         Ok(Left::Nothing)
     }
 
-    /// Reads what is missing for an answer at an address.
+    /// Reads what an answer at an address still needs.
     pub(crate) fn read_for(&mut self, handle: &mut Handle, address: u32) -> Result<Left, Error> {
         if handle.is_read(address, &self.flags)? {
             return Ok(Left::Modules);
