@@ -113,6 +113,10 @@ class Files(unittest.TestCase):
             self.assertEqual(list(parts.find_frames(0x1136)), STACK)
             self.assertEqual(parts.report_names([0x1136]), whole.report_names([0x1136]))
 
+    def test_a_path_with_a_null_byte_is_no_other_path(self):
+        with self.assertRaises(ValueError):
+            limberlime.Program.open(f"{PATH}\0.pdb")
+
     def test_files_at_paths_are_refused_as_their_bytes(self):
         for name, number in REFUSED.items():
             with self.subTest(name), self.assertRaises(limberlime.Error) as caught:
