@@ -42,7 +42,7 @@ def draw(axes, title, across, lines):
     values = [value for _, points in lines for _, value in points]
     axes.set_ylim(10 ** math.floor(math.log10(min(values))), 10 ** math.ceil(math.log10(max(values))))
     axes.minorticks_off()
-    axes.set_xticks(sizes, [f"{size:.0f}" for size in sizes])
+    axes.set_xticks(sizes, [f"{size:.0f}" if size >= 10 else f"{size:.1f}" for size in sizes])
     axes.yaxis.set_major_formatter(lambda value, _: f"{value:,g}")
     axes.set(title=title, xlabel=across)
     axes.grid(True, alpha=0.4)
