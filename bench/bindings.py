@@ -1,13 +1,18 @@
 #!/usr/bin/env python3
-"""Times questions for frames by the Rust crate beside pdb_symbolizer and llvm-symbolizer over a PDB file.
+"""Measures how fast the Rust crate finds frames in a PDB file, and compares it with two programs.
 
 Usage: bindings.py FOLDER PDB EXE ADDRESSES RUNS SYMBOLIZER
 
-FOLDER holds the bindings as `bindings/run.sh FOLDER` leaves them, ADDRESSES is a file with an address a line, relative
-to where the program is loaded, and SYMBOLIZER a built pdb_symbolizer. Each figure is the least of so many runs: what
-opening the file and the first question take together, what each later question takes, and how many addresses a second
-that is; beside it those of the programs, which are given the addresses of the file at once. The status is 1 where a
-later question takes more than a fifth of the opening and the first.
+FOLDER is the output of `bindings/run.sh FOLDER`. ADDRESSES is a file with one address per line, relative to the load
+address. SYMBOLIZER is a built pdb_symbolizer.
+
+The script prints these figures, each the minimum over RUNS runs:
+
+  - the time to open the file and do the first lookup
+  - the time of each later lookup
+  - lookups per second, for the crate, pdb_symbolizer and llvm-symbolizer. Each program gets all addresses in one run.
+
+The exit status is 1 if a later lookup takes more than a fifth of the time for opening the file and the first lookup.
 """
 import os
 import pathlib
@@ -19,14 +24,15 @@ MOST_OF_THE_FIRST = 5
 
 
 def crate_figures(folder, pdb, addresses, runs):
-    """The milliseconds of the opening with the first question, and those of a later question."""
+    """Returns the milliseconds of opening plus the first lookup, and those of one later lookup."""
     words = [str(folder / "target" / "release" / "examples" / "questions"), pdb, addresses]
     rows = [subprocess.run(words, capture_output=True, check=True, text=True).stdout.split() for _ in range(runs)]
     return min(float(row[0]) for row in rows), min(float(row[1]) for row in rows)
 
 
 def program_seconds(words, addresses, runs):
-    """The seconds of a program's run over all addresses, without those of a run over the first alone."""
+    """Returns the seconds that a program needs for all addresses after the first. A run over the first address alone is
+    subtracted, so that starting the program and opening the file don't count."""
     lines = pathlib.Path(addresses).read_text().splitlines(keepends=True)
     return max(least(words, "".join(lines), runs) - least(words, lines[0], runs), 1e-9)
 

@@ -3,9 +3,9 @@
 
     measure.py CRATES RUNS [SUBJECT ..]
 
-CRATES is the folder of the crates, where pdb_bench and pdb_report were built. There is a table for each subject; with
-none named all are printed. The sizes of a table take turns, and each figure is the least of so many runs. Behind a
-figure stands how many times that of the size before it is.
+CRATES is the folder of the crates, in which pdb_bench and pdb_report were built. Each subject has one table. Without a
+SUBJECT, all tables are printed. Each figure is the minimum over RUNS runs, and the sizes of a table take turns. The
+number in parentheses is the ratio to the row before.
 """
 import os
 import pathlib
@@ -31,7 +31,8 @@ MANY = [125_000, 250_000, 500_000]
 
 
 class Run:
-    """What one run of pdb_bench answered: microseconds of each step, kilobytes, and how many were found."""
+    """The output of one run of pdb_bench: microseconds of each step, kilobytes of memory, and the number of frames
+    found."""
 
     def __init__(self, steps, counts):
         self.parsed, self.peaks, self.contexts = 0, [], []
@@ -53,7 +54,7 @@ class Run:
 
 
 class Figures:
-    """The least figures of a size."""
+    """The minimum of each figure over all runs of one size."""
 
     def __init__(self, size, runs):
         self.bytes, self.found = size, runs[0].found
@@ -78,7 +79,7 @@ def one_run(crates, folder, number):
 
 
 def measured(crates, runs, shape, sizes):
-    """The least figures of each size of a shape."""
+    """Returns the minimum figures for each size of a shape."""
     with tempfile.TemporaryDirectory() as folder:
         for number, size in enumerate(sizes):
             numbers = size if isinstance(size, tuple) else (size,)
@@ -89,7 +90,7 @@ def measured(crates, runs, shape, sizes):
 
 
 def time_text(microseconds):
-    """A time in two or three digits."""
+    """Formats a time with two or three digits."""
     if microseconds == 0:
         return "under 1 µs"
     if microseconds < 1_000:
@@ -108,7 +109,8 @@ def size_text(size):
 
 
 def column(figures, value):
-    """Times, each with how many times the one before it is, where that has two digits."""
+    """Formats times, each with its ratio to the one before. A time under 10 µs is too short for a ratio, so none
+    follows it."""
     times = [value(figure) for figure in figures]
     texts = [time_text(times[0])]
     for before, after in zip(times, times[1:]):
@@ -138,7 +140,7 @@ def passes(figures):
 
 
 def file_and_reading(figures):
-    """The columns of what stands before the first question."""
+    """The columns for the steps before the first lookup: file size, reading, memory, and making a context."""
     return [
         [f"{figure.bytes / MEGABYTE:.0f} MB" for figure in figures],
         column(figures, lambda figure: figure.parsed),
@@ -157,7 +159,7 @@ def reading(crates, runs):
 
 
 def report_run(crates, path, addresses):
-    """The microseconds of a whole run of pdb_report, the kilobytes that it held at most, and what it printed."""
+    """Returns the microseconds and the peak kilobytes of a whole run of pdb_report, and its standard output."""
     with tempfile.TemporaryFile() as out:
         start = time.perf_counter()
         process = subprocess.Popen([f"{crates}/pdb_report/out/pdb_report", path, "names", *addresses], stdout=out)
@@ -174,7 +176,7 @@ def files(crates, runs):
     with tempfile.TemporaryDirectory() as folder:
         whole, asked = f"{folder}/whole.json", f"{folder}/addresses"
         records.write("program", MODULES, whole, asked)
-        # (by a process of its own, since what this one holds would count for those that it starts)
+        # (in a process of its own: a child's peak memory would start at what this process holds)
         subprocess.run([sys.executable, split.__file__, whole, f"{folder}/parts"], check=True)
         addresses = pathlib.Path(asked).read_text().split()
         paths = {"one file": whole, "a file for each module": f"{folder}/parts/records.json"}
@@ -237,7 +239,7 @@ def hostile(crates, runs):
 
 
 def first_passes(crates, runs, head, value, shapes):
-    """A table of first passes, with a column for each shape."""
+    """Prints a table of first passes, with a column for each shape."""
     columns = [column(measured(crates, runs, shape, MANY), value) for shape in shapes]
     print_table([head, *shapes.values()], zip([size_text(size) for size in MANY], *columns))
 

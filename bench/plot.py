@@ -3,7 +3,7 @@
 
 Usage: plot.py
 
-It wants Debian's python3-matplotlib, so run it by /usr/bin/python3. Both axes of each figure are logarithmic.
+It needs Debian's python3-matplotlib, so run it with /usr/bin/python3. Both axes of each figure are logarithmic.
 """
 import math
 import os
@@ -20,13 +20,14 @@ FIGURE = re.compile(r"([\d.,]+) ?(µs|ms|s|MB|GB|)(?= |$)")
 
 
 def number(cell):
-    """The figure at the front of a cell, in milliseconds or megabytes."""
+    """Returns the number at the start of a cell, in milliseconds or megabytes."""
     digits, unit = FIGURE.match(cell).groups()
     return float(digits.replace(",", "")) * UNITS[unit]
 
 
 def table(heading):
-    """The rows of the table under a heading, each as its cells by their column; a column's second is named `NAME 2`."""
+    """Returns the rows of the table under a heading, as dicts by column name. If two columns share a name, the second
+    one is `NAME 2`."""
     with open(RESULTS, encoding="utf-8") as pages:
         section = pages.read().split(f"\n## {heading}\n")[1].split("\n## ")[0]
     lines = [[cell.strip() for cell in line[1:-1].split("|")] for line in section.splitlines() if line.startswith("|")]
@@ -35,7 +36,7 @@ def table(heading):
 
 
 def draw(axes, title, across, lines):
-    """A panel: for each line a label, and points. The sizes that were measured are the marks of the axis across."""
+    """Draws a panel. Each line has a label and points. The ticks of the x axis are the measured sizes."""
     for label, points in lines:
         axes.loglog(*zip(*points), marker="o", markersize=4, label=label)
     sizes = sorted({size for _, points in lines for size, _ in points})
@@ -49,7 +50,7 @@ def draw(axes, title, across, lines):
 
 
 def figure(name, across, panels):
-    """A file of panels beside one another, which have the same lines."""
+    """Writes an SVG file with panels side by side. All panels have the same lines, and share one legend."""
     drawing, all_axes = pyplot.subplots(1, len(panels), figsize=(1 + 4 * len(panels), 4), squeeze=False)
     for axes, (title, lines) in zip(all_axes[0], panels):
         draw(axes, title, across, lines)
@@ -61,7 +62,7 @@ def figure(name, across, panels):
 
 
 def passes():
-    """The lines of the passes over programs whose procedures have fifty sites each, over the sizes of the files."""
+    """Returns the lines of passes over programs with fifty inline sites per procedure, by file size."""
     rows = [row for row in table("Passes over programs") if ", 50, " in row["Procedures, sites of each, addresses"]]
     columns = [("functions, first pass", "Functions, first pass"), ("functions, later passes", "later passes"),
                ("frames, first pass", "Frames, first pass"), ("frames, later passes", "later passes 2")]
@@ -69,7 +70,7 @@ def passes():
 
 
 def beside(column):
-    """A line for each of the two programs: a column of the table beside llvm-symbolizer, over the sizes of the files."""
+    """Returns one line for each of the two programs: a column of the table "Beside llvm-symbolizer", by file size."""
     lines, size = {}, None
     for row in table("Beside llvm-symbolizer"):
         size = number(row["PDB file"]) if row["PDB file"] else size

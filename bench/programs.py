@@ -3,11 +3,12 @@
 
 Usage: programs.py FOLDER COUNT..
 
-For each COUNT the folder gets sources-COUNT.exe and sources-COUNT.pdb, of so many sources. Each source has its own
-instances of containers and algorithms of the standard library, so the PDB file grows with the number of sources, in
-types, names, lines and inlined bodies alike. The programs have no DWARF sections, which llvm-symbolizer would read in
-place of the PDB file. It wants the Debian packages clang-22, lld-22 and
-g++-mingw-w64-x86-64-win32. No gate runs this.
+For each COUNT the folder gets sources-COUNT.exe and sources-COUNT.pdb, built from COUNT sources. Each source has its
+own instances of containers and algorithms of the standard library. So types, names, lines and inlined bodies of the PDB
+file all grow with the number of sources. The programs have no DWARF sections, because llvm-symbolizer would read those
+instead of the PDB file.
+
+The script needs the Debian packages clang-22, lld-22 and g++-mingw-w64-x86-64-win32.
 """
 import os
 import subprocess
@@ -81,13 +82,13 @@ template <int number> int fill(int size) {
 
 
 def source(number):
-    """One source: calls of its own instances of the classes."""
+    """Returns the text of one source, which calls its own instances of the classes."""
     calls = " + ".join(f"fill<{number * CLASSES + one}>(size)" for one in range(CLASSES))
     return f'#include "shelf.h"\n\nint part{number}(int size) {{\n    return {calls};\n}}\n'
 
 
 def entry(count):
-    """The source that calls all others."""
+    """Returns the text of the source with `main`, which calls all others."""
     parts = "".join(f"int part{number}(int size);\n" for number in range(count))
     calls = "".join(f"    sum += part{number}(count);\n" for number in range(count))
     return f"{parts}\nint main(int count, char **) {{\n    int sum = 0;\n{calls}    return sum;\n}}\n"
@@ -99,14 +100,15 @@ def write(path, text):
 
 
 def compiled(name):
-    """The object file of a source in this folder, which is compiled where that was not done before."""
+    """Returns the name of a source's object file in this folder. It compiles the source only if that file is
+    missing."""
     if not os.path.exists(f"{name}.o"):
         subprocess.run([*FLAGS, "-c", f"{name}.cpp", "-o", f"{name}.o"], check=True)
     return f"{name}.o"
 
 
 def build(count):
-    """Builds the program of so many sources in this folder."""
+    """Builds the program of COUNT sources in this folder."""
     names = [f"part{number}" for number in range(count)]
     for number, name in enumerate(names):
         write(f"{name}.cpp", source(number))

@@ -1,13 +1,18 @@
 #!/usr/bin/env python3
-"""Times two built programs pdb_symbolizer over a PDB file: how long they take to the first answer, and what they hold.
+"""Compares two builds of pdb_symbolizer over PDB files: time to the first answer, total time, and memory.
 
 Usage: reading.py PROGRAM OTHER RUNS PDB..
 
-Asked for are an address in the middle of the code; twenty addresses, four each of five places; and the start and the
-middle of each function, as `--dump-syms` of the first program lists them. Addresses are read from standard input, and
-the programs take turns. Each figure is the least of so many runs, the milliseconds of a whole run and the bytes of
-memory that it held at most for each byte of the file, and behind those of the second program stands what part of them
-the first one's are. Behind a second PDB file's first answer stands how many times that of the first file it is.
+There are three lists of addresses:
+
+  - one address in the middle of the code
+  - twenty addresses: four at each of five places
+  - the start and the middle of each function, as `--dump-syms` of PROGRAM lists them
+
+The programs read the addresses from standard input, and take turns. A time is the minimum over RUNS runs, in
+milliseconds of a whole run. Memory is the maximum, in bytes per byte of the file. The numbers in parentheses after
+OTHER's figures are PROGRAM's figures divided by them. From the second PDB file on, the heading says how many times the
+first file's first answer this file's first answer took.
 """
 import os
 import subprocess
@@ -19,8 +24,8 @@ QUESTIONS = ["first answer", "twenty addresses", "all functions"]
 
 
 def functions(program, pdb):
-    """The start and the middle of each function. What a child has held begins with what this process holds, so lines are
-    read one by one."""
+    """Returns the start and the middle of each function. It reads line by line, because a child's peak memory starts at
+    what this process holds."""
     places = []
     with subprocess.Popen([program, "--dump-syms", pdb], stdout=subprocess.PIPE, stderr=subprocess.DEVNULL) as process:
         for line in process.stdout:
@@ -31,14 +36,14 @@ def functions(program, pdb):
 
 
 def questions(addresses):
-    """The addresses of each question."""
+    """Returns the three lists of addresses."""
     middle = addresses[len(addresses) // 2]
     places = [len(addresses) * (2 * number + 1) // 10 for number in range(5)]
     return [[middle], [address for place in places for address in addresses[place:place + 4]], addresses]
 
 
 def run(program, pdb, path):
-    """The milliseconds of a run over a file of addresses, and the bytes of memory that it held at most."""
+    """Returns the milliseconds of a run over a file of addresses, and its peak memory in bytes."""
     with open(path) as addresses, open(os.devnull, "w") as out:
         start = time.perf_counter()
         process = subprocess.Popen([program, pdb], stdin=addresses, stdout=out, stderr=out)
@@ -51,7 +56,8 @@ def run(program, pdb, path):
 
 
 def measure(programs, runs, pdb, folder):
-    """The least milliseconds and the most memory of each program, for each question."""
+    """Returns the file's size, and for each list of addresses the minimum milliseconds and the maximum memory of each
+    program."""
     size = os.path.getsize(pdb)
     rows = []
     for number, addresses in enumerate(questions(functions(programs[0], pdb))):

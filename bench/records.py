@@ -1,37 +1,37 @@
 #!/usr/bin/env python3
-"""Writes a records file of a shape, and a file with addresses to ask for.
+"""Writes a records file of a shape, and a file with addresses to look up.
 
     records.py SHAPE NUMBER .. RECORDS ADDRESSES
 
-Shapes of programs as they are:
+Shapes of ordinary programs:
 
     symbols N           public symbols of 16 bytes, a procedure at each sixteenth one, a thousand modules in turn
-    program P S A       procedures with sites in two nests, line rows and a signature, and the number of addresses
-    genuine P S A T I   the same with so many types and ids, of which five hundred each are asked for, all over them
+    program P S A       P procedures, each with S sites in two nests, line rows and a signature, and A addresses
+    genuine P S A T I   the same with T types and I ids. Five hundred of each are used, spread over all of them
     genuine-descending, genuine-shuffled, genuine-doubles
-                        the same, where the types stand from the last to the first, in no order, or each twice
+                        the same, with the types from last to first, in random order, or each twice
 
-Shapes that a hostile writer could hand in:
+Shapes that a hostile writer could pass:
 
     procedures N        procedures, each nested in the one before and covered by it
     sites N             inline sites of one procedure, each directly inside the one before
-    side-by-side N      inline sites of one procedure, one after the other inside a first one without rows
+    side-by-side N      inline sites of one procedure, one after the other inside a first one whose only row is empty
     publics N           public symbols, all at one section offset
 
-Types and ids, of which signatures and names of inlined functions are made:
+Types and ids, used by signatures and by names of inlined functions:
 
-    sizes N             types all over a list, each the base of an array in a signature
-    references N        the same of forward references, whose classes stand in the list's second half
-    chain N             enumerations, each over the next, which stands behind an import of another module
-    named-chain N       the same, where the other module's name is as long as the chain
-    circle N            the same, where the last is over the first
+    sizes N             types spread over a list, each the element type of an array in a signature
+    references N        the same with forward references, whose classes are in the list's second half
+    chain N             enumerations, each over the next one, which is reached by an import from another module
+    named-chain N       the same, with a name of the other module that is as long as the chain
+    circle N            the same, with the first enumeration as the type of the last
     pointers N          pointers to pointers
     callbacks N         procedures that take procedures
     pointed-arrays N    pointers to arrays of pointers
     arrays N            arrays of arrays
     arguments N         arguments of one type
     scopes N            functions, each the scope of the one before
-    scopes-circle N     the same, where the first is the scope of the last
+    scopes-circle N     the same, with the first function as the scope of the last
 """
 import json
 import random
@@ -44,12 +44,12 @@ CROSS_MODULE = 1 << 31
 NO_END = 0xFFFF_FFFF
 PUBLIC, PROCEDURE, SITE = 0x110E, 0x1110, 0x114D
 OTHER = {"raw_kind": 0}
-# How many functions of a program are inlined, and how many of its types and ids are asked for.
+# The number of functions of a program that are inlined, and the number of its types and of its ids that are used.
 INLINED = ASKED = 500
 
 
 class Module:
-    """What is known of a module. Lists may be generators: they are written once, in order."""
+    """The records of a module. Lists may be generators: they are written once, in order."""
 
     def __init__(self, symbols=(), entries=(), files=(), inlinees=(), imports=(), exports=(), name=""):
         self.symbols, self.entries, self.files = symbols, entries, files
@@ -57,8 +57,8 @@ class Module:
 
 
 class Program:
-    """What is known of a program, whose one section holds code. The first module has all of it, where no
-    contributions are given."""
+    """The records of a program, whose one section holds code. Without contributions, the first module claims the whole
+    section."""
 
     def __init__(self, modules, addresses, publics=(), contributions=None, types=(), ids=(), texts=()):
         whole = [{"section": 1, "offset": 0, "size": SECTION_SIZE, "module": 0}]
@@ -72,7 +72,8 @@ def place(offset):
 
 
 def spread(span, count):
-    """So many addresses all over the code at the section's start, neighbours at other offsets of their functions."""
+    """Returns `count` addresses spread over the section's code. Neighbours lie at different offsets of their
+    functions."""
     step = span // count + 37
     return [SECTION_START + number * step % span for number in range(count)]
 
@@ -91,7 +92,7 @@ def site(inlinee, end, offset, length, file, line):
     return {"raw_kind": SITE, "data": {"kind": "InlineSite", "inlinee": inlinee, "end": end, "rows": [row]}}
 
 
-# Programs as they are.
+# Ordinary programs.
 
 
 def symbols(count):
@@ -113,8 +114,8 @@ def symbols(count):
 
 
 def nest(position, start, size, sites, inlinees, files):
-    """Sites at a position of a list of symbols, each directly inside the one before. The deeper a site is, the later
-    its code begins, and all end together."""
+    """Yields nested sites from a position of a list of symbols on. The deeper a site is, the later its code begins; all
+    end together."""
     for depth in range(sites):
         shift = min(depth * size // sites, size)
         inlinee = inlinees[(start + depth) % len(inlinees)]
@@ -124,12 +125,12 @@ def nest(position, start, size, sites, inlinees, files):
 
 
 def one_signature():
-    """The types of one signature, and its index."""
+    """Returns the types of one signature, and a list of its index."""
     return signature_types("arguments", 2), [FIRST_INDEX]
 
 
 def some_ids():
-    """The ids of the functions that are inlined, and their indices."""
+    """Returns the ids of the functions that are inlined, and their indices."""
     return (function_id(position, None) for position in range(INLINED)), range(FIRST_INDEX, FIRST_INDEX + INLINED)
 
 
@@ -175,7 +176,8 @@ def program(procedures, sites, asked, signatures=one_signature, ids=some_ids):
 
 
 def class_with_a_method(number):
-    """Six types: a class, a pointer to it, a number, a modifier of it, a list of arguments, and a function."""
+    """Yields six types: a class, a pointer to it, a number, a modifier of the number, an argument list, and a
+    function."""
     first = 6 * number
     named = {"kind": "Class", "class_kind": "Class", "name": f"program::Class{number}"}
     yield {**named, "size": 8 * number, "forward_reference": False}
@@ -207,7 +209,7 @@ def doubles(types):
 
 
 def genuine(order):
-    """A program whose list of types is in this order."""
+    """Returns the shape of a program whose list of types is in this order."""
 
     def made(procedures, sites, asked, types, ids):
         classes = types // 6
@@ -225,7 +227,7 @@ def genuine(order):
     return made
 
 
-# What a hostile writer could hand in.
+# What a hostile writer could pass.
 
 
 def nested_procedures(count):
@@ -237,7 +239,7 @@ INLINED_TEXT = {"index": FIRST_INDEX, "kind": "String", "name": "inlined"}
 
 
 def one_procedure(of_sites, addresses):
-    """A procedure of the whole section with these sites, whose inlined function has a text for a name."""
+    """A procedure that covers the whole section and has these sites. The id of the inlined function is a string."""
 
     def of_module():
         yield procedure(0, SECTION_SIZE, end=NO_END)
@@ -265,7 +267,7 @@ def publics(count):
     return Program([Module()], spread(count, 1000), publics=(public(0, "?public") for _ in range(count)))
 
 
-# Types, and the signatures that ask for them.
+# Types, and the signatures that use them.
 
 
 def index(position):
@@ -300,14 +302,15 @@ def numbered(types):
 
 
 def sized_types(count, asked):
-    """The types of a list, and behind them functions that ask for the sizes at these positions."""
+    """Yields the types of a list, and after them functions that use the sizes of the types at the positions in
+    `asked`."""
     yield from range_of_types(count)
     yield from functions_of_arrays(count, asked)
 
 
 def functions_of_arrays(first, asked):
-    """From a position on three types for each position that is asked for: a function, its list of arguments, and an
-    array of the type there. So the signature has the type's size in it."""
+    """Yields three types for each position in `asked`, from index `first` on: a function, its argument list, and an
+    array of the type at that position. Printing the array's length needs the size of that type."""
     for number, position in enumerate(asked):
         at = first + 3 * number
         yield function_type(at + 1)
@@ -316,8 +319,8 @@ def functions_of_arrays(first, asked):
 
 
 def range_of_types(count):
-    """In turn a class, a number, a modifier of it and one of that. The classes of the first half are forward references
-    to those of the second."""
+    """Yields by turns a class, a number, a modifier of the number, and a modifier of that. The classes of the first
+    half are forward references to those of the second."""
     half = count // 2
     for position in range(count):
         row = position if position < half else position - half
@@ -332,7 +335,7 @@ def range_of_types(count):
 
 
 def functions_with(types, first_type, asked, **module):
-    """A procedure of sixteen bytes for each position that is asked for. Their types are three apart."""
+    """A procedure of sixteen bytes for each function type. Function types are three indices apart."""
     procedures = (procedure(16 * number, 16, "f", type_index=index(first_type + 3 * number)) for number in range(asked))
     return Program(
         [Module(procedures, **module)],
@@ -354,7 +357,8 @@ def references(count):
 
 
 def chain(count, name="N", circular=False):
-    """The first module imports each type of the chain from the second, which has it behind the one before."""
+    """Builds the chain: module 0 imports each type of it from module 1. Module 1 exports the next type under the
+    position of the one before."""
 
     def types():
         for position in range(count):
@@ -390,7 +394,7 @@ def type_at(shape, position):
 
 
 def signature_types(shape, count):
-    """A function, its list of arguments, as many types of a shape, and a number."""
+    """Returns a function, its argument list, `count` types of a shape, and a number."""
 
     def types():
         yield function_type(1)
@@ -469,7 +473,7 @@ def write_list(out, items):
 
 
 def write_members(out, members):
-    """Writes an object with these members, each of them a list."""
+    """Writes the members of an object, without braces. Each member is a list."""
     for number, (name, items) in enumerate(members):
         out.write(f'{"," if number else ""}"{name}":')
         write_list(out, items)

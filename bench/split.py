@@ -1,5 +1,5 @@
 #!/usr/bin/env python3
-"""Writes a records file as one of version 2 with a file for each module.
+"""Splits a records file: writes it in version 2, with each module in a file of its own.
 
     split.py RECORDS FOLDER      writes FOLDER/records.json and FOLDER/0.json, FOLDER/1.json and so on
 """

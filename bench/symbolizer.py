@@ -1,12 +1,14 @@
 #!/usr/bin/env python3
-"""Times the built pdb_symbolizer beside llvm-symbolizer of LLVM 22, over programs and their PDB files.
+"""Compares the built pdb_symbolizer with llvm-symbolizer of LLVM 22, in time and memory, over programs and their PDB
+files.
 
 Usage: symbolizer.py PROGRAM RUNS EXE..
 
-The PDB file of app.exe is app.pdb beside it. Asked for are one address in the middle of the code, and then the start and
-the middle of each function, as `--dump-syms` lists them. Both programs read addresses from standard input, by turns.
-Each time is the least of so many runs, and each memory the most. The number in parentheses after a figure of
-llvm-symbolizer is its ratio to ours. The table is one of bench/RESULTS.md, from which bench/plot.py draws.
+The PDB file of app.exe is app.pdb in the same folder. Each program gets one address in the middle of the code, and in
+another run the start and the middle of each function, as `--dump-syms` lists them. Addresses come from standard input,
+and the programs take turns. Each time is the minimum over RUNS runs, and each memory the maximum. The number in
+parentheses after a figure of llvm-symbolizer is its ratio to that of pdb_symbolizer. The output is a table of
+bench/RESULTS.md, from which bench/plot.py draws.
 """
 import os
 import subprocess
@@ -23,13 +25,13 @@ HEADER = """\
 
 
 def commands(program, pdb, exe):
-    """How each program is asked, by its name."""
+    """Returns the command of each program, by its name in the table."""
     return {"`pdb_symbolizer`": [program, pdb],
             "`llvm-symbolizer`": ["llvm-symbolizer-22", f"--obj={exe}", "--relative-address"]}
 
 
 def run(words, path):
-    """The seconds of a run over a file of addresses, and the megabytes of memory that it held at most."""
+    """Returns the seconds of a run over a file of addresses, and its peak memory in megabytes."""
     with open(path) as addresses, open(os.devnull, "w") as out:
         start = time.perf_counter()
         process = subprocess.Popen(words, stdin=addresses, stdout=out)
@@ -42,14 +44,14 @@ def run(words, path):
 
 
 def figures(named, runs, paths):
-    """For each program the seconds and megabytes of each question."""
+    """Returns for each program the seconds and megabytes of each list of addresses."""
     turns = [{name: [run(words, path) for path in paths] for name, words in named.items()} for _ in range(runs)]
     return {name: [(min(turn[name][at][0] for turn in turns), max(turn[name][at][1] for turn in turns))
                    for at in range(len(paths))] for name in named}
 
 
 def asked(folder, addresses):
-    """Files with the addresses of each question."""
+    """Writes the addresses of each list to a file, and returns the paths."""
     paths = []
     for name, some in (("first", addresses[len(addresses) // 2:][:1]), ("all", addresses)):
         paths.append(os.path.join(folder, name))
@@ -59,7 +61,7 @@ def asked(folder, addresses):
 
 
 def cells(found, ours):
-    """A row's cells: each figure, and how many times ours it is."""
+    """Yields a row's cells: each figure, for llvm-symbolizer with its ratio to that of pdb_symbolizer."""
     for (seconds, memory), (our_seconds, our_memory) in zip(found, ours):
         yield f"{seconds * 1000:.0f} ms" + ("" if found is ours else f" ({seconds / our_seconds:.1f})")
         yield f"{memory:.0f} MB" + ("" if found is ours else f" ({memory / our_memory:.1f})")

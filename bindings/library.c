@@ -1,3 +1,3 @@
-/* The functions of the header as functions of a library, for languages that call libraries and read no headers. */
+/* Exports the functions of the header from a shared library, for languages that call libraries but read no headers. */
 #define LIMBERLIME_FUNCTION __attribute__((visibility("default")))
 #include "limberlime.h"

@@ -3,9 +3,10 @@
 #
 # Usage: bindings/run.sh [FOLDER]
 #
-# What is built is left in FOLDER, which is else a new one that is removed at the end. Wanted are rt, gcc, g++, make,
-# cmake, pkg-config, valgrind, cargo with clippy, and python3. Tests of bags are skipped if python3 has no Dask. Nothing
-# is fetched. The library is proved and built here, or taken from the folder LIMBERLIME_BUILT (packaging/built.sh).
+# FOLDER gets all that is built. Without FOLDER, a temporary folder is used and removed at the end. The script needs rt,
+# gcc, g++, make, cmake, pkg-config, valgrind, cargo with clippy, and python3. Tests of bags are skipped if python3 has
+# no Dask. Nothing is downloaded. The library is proved and built here, or taken from the folder LIMBERLIME_BUILT
+# (packaging/built.sh).
 set -eu
 
 top=$(cd "$(dirname "$0")/.." && pwd)
@@ -30,7 +31,7 @@ shapes::Point::length() const at C:\shapes\shapes.h:10:0
 
 WANTED
 
-# Runs a command, and says so where it fails.
+# Runs a command. If it fails, prints its output.
 try() {
     if "$@" >"$folder/said" 2>&1; then return; fi
     echo "fails: $*"
@@ -38,7 +39,7 @@ try() {
     failed=1
 }
 
-# Runs an example, and says so where it prints something else than is wanted.
+# Runs an example, and checks that it prints the expected stack.
 prints_the_stack() {
     if "$@" "$shapes" 0x1136 >"$folder/printed" && cmp -s "$folder/wanted" "$folder/printed"; then return; fi
     echo "prints something else: $*"
@@ -69,7 +70,7 @@ for build in 'c11 gcc -std=c11' 'c++17 g++ -std=c++17 -x c++'; do
     prints_the_stack "$folder/stack_${name}_sanitized"
 done
 
-# By what `make install` put there.
+# The following builds use the files that `make install` installed.
 export PKG_CONFIG_PATH="$folder/prefix/lib/pkgconfig"
 try cmake -S "$bindings/c" -B "$folder/cmake" -DCMAKE_PREFIX_PATH="$folder/prefix"
 try cmake --build "$folder/cmake"

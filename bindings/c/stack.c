@@ -2,8 +2,8 @@
  *
  *     stack PDB ADDRESS...
  *
- * An address is a hexadecimal number, relative to where the program is loaded. The status is 1 where the library
- * refuses, and 2 for all else.
+ * An address is a hexadecimal number, relative to the load address. The exit status is 1 if the library refuses the
+ * file or a call. It is 2 for all other errors, such as a file that can't be read or an invalid address.
  */
 #include <errno.h>
 #include <stdio.h>
@@ -11,7 +11,7 @@
 
 #include "limberlime.h"
 
-/* The whole file at a path, which the caller frees, or null. It is never null for an empty file. */
+/* Returns the whole file, which the caller frees, or null on failure. An empty file is not null. */
 static uint8_t *read_file(const char *path, size_t *length)
 {
     FILE *file = fopen(path, "rb");
@@ -39,7 +39,7 @@ static uint8_t *read_file(const char *path, size_t *length)
     return bytes;
 }
 
-/* The address that a word spells in hexadecimal digits. Whether it spells one. */
+/* Reads an address in hexadecimal digits. Returns 1 if the argument is one, and 0 if it isn't. */
 static int read_address(const char *word, uint32_t *address)
 {
     char *end;
@@ -55,7 +55,8 @@ static void print_frame(const struct limberlime_frame *frame, const char *before
            frame->file == NULL ? "??" : frame->file, (unsigned long)frame->line);
 }
 
-/* Prints the stack of an address, or what refuses it. */
+/* Prints the stack of an address, or the error. An error of this address alone (LIMBERLIME_ADDRESS_REFUSED) prints `??`
+ * and returns 0. */
 static int print_stack(struct limberlime_handle *handle, uint32_t address)
 {
     struct limberlime_function_frames found;
@@ -86,7 +87,7 @@ static int64_t open_records(const char *path, struct limberlime_handle *handle)
     return answer;
 }
 
-/* Opens the PDB file at a path, or else the records file there. */
+/* Opens the file at a path as a PDB file. If it isn't one, opens it as a records file. */
 static int64_t open_file(const char *path, struct limberlime_handle *handle)
 {
     int64_t answer = limberlime_open_path(path, handle);
@@ -95,7 +96,7 @@ static int64_t open_file(const char *path, struct limberlime_handle *handle)
     return answer;
 }
 
-/* Prints the stacks of all addresses. */
+/* Prints the stacks of all addresses, up to the first error. */
 static int print_stacks(struct limberlime_handle *handle, char **words)
 {
     int status = 0;

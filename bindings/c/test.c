@@ -1,9 +1,9 @@
-/* Sees that each refusal is answered by its number, and what a handle answers of a small program.
+/* Tests that each kind of refusal has its error number, and what a handle returns for a small program.
  *
  *     test SHAPES FOLDER MODULES
  *
  * They are crates/pdb_symbolizer/data/shapes.pdb, crates/pdb_container_tests/data and
- * crates/pdb_report_tests/data/modules. The status is 1 where an answer is another than is wanted.
+ * crates/pdb_report_tests/data/modules. The exit status is 1 if a result is not the expected one.
  */
 #include <stdio.h>
 #include <string.h>
@@ -20,7 +20,7 @@ static void expect(const char *what, int holds)
     }
 }
 
-/* The whole file, which the caller frees. */
+/* Returns the first MiB of a file, which the caller frees. The files of this test are smaller. */
 static uint8_t *read_file(const char *folder, const char *name, size_t *length)
 {
     char path[4096];
@@ -72,7 +72,7 @@ static void refused_files(const char *folder)
     limberlime_close(&handle);
 }
 
-/* Files at paths are refused as their bytes are, and so are paths without a file. */
+/* Tests that opening a path returns the same errors as opening the bytes, and that paths without a file are refused. */
 static void refused_paths(const char *folder)
 {
     struct limberlime_handle handle = LIMBERLIME_CLOSED;
@@ -94,7 +94,7 @@ static void refused_paths(const char *folder)
     limberlime_close(&handle);
 }
 
-/* Whether two answers are the same. */
+/* Returns whether two results are equal. */
 static int are_same(const struct limberlime_function_frames *a, const struct limberlime_function_frames *b)
 {
     int same = a->count == b->count && a->start == b->start && a->end == b->end && a->end_known == b->end_known;
@@ -115,7 +115,7 @@ static int add_frames(void *caller, uint32_t address, int64_t answer, const stru
     return 0;
 }
 
-/* A file at a path answers what its bytes do. */
+/* Tests that a file opened by its path gives the same answers as its bytes. */
 static void paths(const char *path, const uint8_t *pdb, size_t length)
 {
     static const uint32_t addresses[] = {0x1136, 0x10, 0x1000};
@@ -199,7 +199,7 @@ static void functions(const uint8_t *pdb, size_t length)
     limberlime_close(&handle);
 }
 
-/* Where the caller's frames have more members, each stands behind the other by the caller's size. */
+/* If the caller's struct of a frame has more members, frames are laid out at the caller's size. */
 static void larger_frames(const uint8_t *pdb, size_t length)
 {
     struct larger_frame {
@@ -223,7 +223,7 @@ static void versions(void)
 }
 
 #ifdef __cplusplus
-/* In C++ the name of a struct is that of a type, unless a function has it too. */
+/* In C++ the name of a struct is also the name of a type, unless a function has the same name. */
 static void names_without_struct(void)
 {
     limberlime_handle handle = LIMBERLIME_CLOSED;
@@ -274,7 +274,7 @@ static void machines(const uint8_t *pdb, size_t length)
     expect("none of no bytes", limberlime_machine(NULL, 16) == LIMBERLIME_NULL_POINTER);
 }
 
-/* Where module files are read, and the bytes of the last one. */
+/* The folder that module files are read from, and the bytes of the last one. */
 struct folder {
     const char *path;
     uint8_t *bytes;
@@ -321,7 +321,7 @@ static void module_files(const char *path)
     free(records);
 }
 
-/* What was handed over of a list of addresses, and after how many answers it stops. */
+/* Counts the answers to a list of addresses. The callback stops the list after `most` answers. */
 struct answers {
     size_t given;
     size_t most;

@@ -3,9 +3,9 @@
 
 Usage: bag.py STORE REQUESTS [WORKERS]
 
-STORE is a folder with PDB files as symbol servers have them (STORE/app.pdb/DEBUGID/app.pdb). REQUESTS is a file with a
-request on each line, as `pdb_symbolizer --symbolicate-lines` reads it. Each frame is a line as `pdb_symbolizer -p`
-prints it, and an empty line follows each stack. Without WORKERS there are two.
+STORE is a folder with PDB files in the layout of symbol servers (STORE/app.pdb/DEBUGID/app.pdb). REQUESTS is a file
+with one request per line, as `pdb_symbolizer --symbolicate-lines` reads it. Each frame is printed as `pdb_symbolizer
+-p` prints it, and an empty line follows each stack. WORKERS is 2 if not given.
 """
 import json
 import pathlib
@@ -20,7 +20,7 @@ BLOCK = 1 << 20
 
 
 def stacks(line):
-    """The stacks of a request, with the name and the debug id of each frame's PDB file."""
+    """Yields the stacks of a request. Each frame has the name and the debug id of its PDB file, and the offset."""
     request = json.loads(line)
     for job in request.get("jobs", [request]):
         modules = [*job["memoryMap"], ("", "")]
@@ -29,7 +29,7 @@ def stacks(line):
 
 
 def lines(stack):
-    """The text of a stack."""
+    """Formats a stack."""
     text = ""
     for frame in stack:
         calls = [*frame.inlined, limberlime.Frame(frame.function, frame.file, frame.line)]

@@ -1,10 +1,11 @@
 #!/usr/bin/env python3
-"""Makes the wheel of limberlime: the build backend that pyproject.toml names, and a program.
+"""Builds the wheel of limberlime. It is the build backend that pyproject.toml names, and also a program.
 
 Usage: make_wheel.py FOLDER LIBRARY PLATFORM
 
-puts into FOLDER the wheel with the shared library LIBRARY in it, for PLATFORM, as manylinux_2_34_x86_64. `pip install`
-of this folder makes one without a library, which takes the installed one. The same files make the same bytes.
+The program writes a wheel to FOLDER, with the shared library LIBRARY in it. PLATFORM is a tag such as
+manylinux_2_34_x86_64. `pip install` of this folder builds a wheel without a library, which uses the installed one. The
+same input files give the same bytes.
 """
 import base64
 import hashlib
@@ -19,12 +20,12 @@ EPOCH = (1980, 1, 1, 0, 0, 0)
 
 
 def version():
-    """The version, which stands in the header."""
+    """Reads the version from the C header."""
     return ".".join(re.findall(r"#define LIMBERLIME_VERSION_(?:MAJOR|MINOR|PATCH) (\d+)", HEADER.read_text()))
 
 
 def setting(name):
-    """What pyproject.toml has for a name, as a text."""
+    """Returns a string setting of pyproject.toml."""
     return re.search(rf'^{name} = (?:{{ text = )?"(.*?)"', (HERE / "pyproject.toml").read_text(), re.M)[1]
 
 
@@ -37,7 +38,7 @@ def metadata():
 
 
 def files(library, tag):
-    """The files of a wheel by their names in it."""
+    """Returns the wheel's files by their names in it, and the name of its RECORD file."""
     info = f"limberlime-{version()}.dist-info"
     sources = [path for path in sorted((HERE / "limberlime").iterdir()) if path.suffix in (".py", ".typed")]
     found = {f"limberlime/{path.name}": path.read_bytes() for path in sources}
@@ -52,7 +53,7 @@ def files(library, tag):
 
 
 def record(found, name):
-    """The list of a wheel's files with their sums."""
+    """Returns the text of the RECORD file: each file with its checksum and size."""
     rows = [f"{path},sha256={digest(data)},{len(data)}\n" for path, data in found.items()]
     return ("".join(rows) + f"{name},,\n").encode()
 
@@ -62,7 +63,7 @@ def digest(data):
 
 
 def make(folder, library=None, platform="any"):
-    """Writes the wheel, and answers its name."""
+    """Writes the wheel, and returns its file name."""
     tag = f"py3-none-{platform}"
     found, list_name = files(library, tag)
     found[list_name] = record(found, list_name)
@@ -76,7 +77,7 @@ def make(folder, library=None, platform="any"):
 
 
 def build_wheel(wheel_directory, config_settings=None, metadata_directory=None):
-    """What pip calls."""
+    """The hook that pip calls to build a wheel."""
     return make(wheel_directory)
 
 

@@ -3,7 +3,7 @@
 
 Usage: stack.py PDB ADDRESS..
 
-An address is a hexadecimal number, relative to where the program is loaded.
+An address is a hexadecimal number, relative to the load address.
 """
 import pathlib
 import sys
@@ -12,7 +12,7 @@ from limberlime import Error, Program, Refusal
 
 
 def open_file(path):
-    """A PDB file, or else a records file."""
+    """Opens a PDB file. If it isn't one, opens it as a records file."""
     try:
         return Program.open(path)
     except Error as error:

@@ -1,4 +1,4 @@
-"""Stacks over several PDB files, by Dask."""
+"""Tests of `symbolicate_bag`: stacks over several PDB files, computed by Dask."""
 import importlib.util
 import pathlib
 import shutil
@@ -27,8 +27,8 @@ NOWHERE = (None, None, None, ())
 
 
 class StandIn:
-    """Takes the place of limberlime.Program, over files whose text is a name and a debug id. At addresses from 0x1000
-    there is one frame, and from 0x2000 there are two."""
+    """Replaces limberlime.Program. A file's text is a name and a debug id. Addresses from 0x1000 have one frame, and
+    those from 0x2000 two."""
 
     opened, asked = [], []
 
@@ -51,7 +51,7 @@ class StandIn:
 
 
 def answered(frame):
-    """What the stand-in answers to a frame."""
+    """Returns the expected frame, as StandIn answers it."""
     name, debug_id, offset = frame
     found = (name, debug_id.upper()) in (("one.pdb", ONE), ("two.pdb", TWO))
     if not found or not 0x1000 <= offset < 2**32:
@@ -61,7 +61,7 @@ def answered(frame):
 
 
 def put(store, name, debug_id, data):
-    """Puts a file into a store."""
+    """Writes a file into a symbol store."""
     folder = pathlib.Path(store, name, debug_id)
     folder.mkdir(parents=True)
     (folder / name).write_bytes(data)

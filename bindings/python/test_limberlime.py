@@ -1,4 +1,4 @@
-"""Questions to a small program, and what is refused."""
+"""Tests of lookups in a small program, and of files that are refused."""
 import concurrent.futures
 import pathlib
 import re

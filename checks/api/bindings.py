@@ -1,12 +1,12 @@
 #!/usr/bin/env python3
-"""Compares frames as data with what the built programs print, over PDB files and random records files.
+"""Compares frames from the Python module with what the built programs print, over PDB files and random records files.
 
 Usage: bindings.py FOLDER SYMBOLIZER REPORT [COUNT] [FIRST_SEED]
 
-FOLDER holds the bindings as `bindings/run.sh FOLDER` leaves them; SYMBOLIZER is a built pdb_symbolizer and REPORT a
-built pdb_report. The PDB files are those in the data of the crates, the random records files those of COUNT (200) seeds from
-FIRST_SEED (0) on, as checks/model makes them. Each growth of memory of a run of the example in C is refused in turn. Up
-to 20 differences are printed; the status is 1 where there is one.
+FOLDER is the output of `bindings/run.sh FOLDER`. SYMBOLIZER is a built pdb_symbolizer, and REPORT a built pdb_report.
+The PDB files are those in the crates' `data`. The random records files are those that checks/model makes for COUNT
+(200) seeds from FIRST_SEED (0) on. Last, each memory allocation of a run of the C example fails in turn. Up to 20
+differences are printed. The exit status is 1 if there is one.
 """
 import os
 import pathlib
@@ -25,7 +25,7 @@ from model import with_big_stack  # noqa: E402
 MOST_SHOWN = 20
 SECONDS = 120
 ADDRESS = re.compile(r"(0x)?[0-9a-fA-F]{1,8}")
-# Where addresses are asked for: each so many bytes of the first bytes that a small program's code has.
+# The addresses to look up: every STEP bytes from 0x1000 to END, which covers the code of a small program.
 STEP, END = 3, 0x9000
 UNKNOWN = "?? at ??:0:0\n"
 NO_MEMORY = "out of memory"
@@ -36,14 +36,14 @@ def run(words, **more):
 
 
 def symbolizer_lines(frames):
-    """What pdb_symbolizer prints of frames with -p, but the empty line."""
+    """Formats frames as `pdb_symbolizer -p` does, without the empty line at the end."""
     lines = [f"{'??' if frame.function is None else frame.function} at {frame.file or '??'}:{frame.line or 0}:0\n"
              for frame in frames]
     return " (inlined by) ".join(lines) if lines else UNKNOWN
 
 
 def report_lines(address, frames):
-    """What pdb_report prints of frames, but that a line 0 is taken for one that isn't known."""
+    """Formats frames as `pdb_report` does, but with `??` for a line 0, because the library has no such line."""
     if not frames:
         return f"{address:x} - no frames found\n"
     lines = [f"     {'<unknown>' if frame.function is None else frame.function} at "
@@ -53,14 +53,15 @@ def report_lines(address, frames):
 
 
 def as_report_names(frames, wanted):
-    """Frames whose function has no name where pdb_report prints none: it doesn't print names of symbols."""
+    """Removes the outermost function's name if pdb_report prints `<unknown>`, because pdb_report prints no names of
+    symbols."""
     if frames and wanted.splitlines()[-1:] and wanted.splitlines()[-1].startswith("     <unknown> at "):
         return [*frames[:-1], frames[-1]._replace(function=None)]
     return frames
 
 
 def pdb_differences(limberlime, symbolizer, path, counts):
-    """Where frames over a PDB file are others than the program prints."""
+    """Returns the addresses of a PDB file at which the library's frames differ from what the program prints."""
     addresses = range(0x1000, END, STEP)
     printed = run([symbolizer, "-p", path, *(f"0x{address:x}" for address in addresses)])
     try:
@@ -87,7 +88,7 @@ def address_difference(limberlime, program, path, address, wanted, counts):
 
 
 def records_differences(limberlime, report, path, data, runs, counts):
-    """Where frames over a records file are others than the program prints, an address at a time."""
+    """Returns the addresses of a records file at which the library's frames differ from what the program prints."""
     try:
         program = limberlime.Program.open_records(data)
     except limberlime.Error as refusal:
@@ -111,7 +112,8 @@ def records_differences(limberlime, report, path, data, runs, counts):
 
 
 def growth_differences(folder, place, counts):
-    """Runs of the example in C of which one growth of memory is refused: they end as wanted, or say so."""
+    """Runs the C example with one failing memory allocation, for each in turn. A run must end as expected or report the
+    failure."""
     allocator = pathlib.Path(place) / "allocator.so"
     run(["gcc", "-O2", "-fPIC", "-shared", "-o", allocator, CHECKS / "fuzz" / "refusing_allocator.c"], check=True)
     words = [folder / "stack_c11", CRATES / "pdb_symbolizer" / "data" / "shapes.pdb", "0x1136", "0x1000"]

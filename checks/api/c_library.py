@@ -3,11 +3,10 @@
 
 Usage: c_library.py FOLDER PROGRAM [COUNT] [FIRST_SEED]
 
-FOLDER holds the examples as `examples/run.sh FOLDER` leaves them, and PROGRAM is a built pdb_report. The random files
-are those of COUNT (200) seeds from FIRST_SEED (0) on, as checks/model makes them. Where the program prints a whole
-report an example has to print the same; where it ends early an example has to print nothing but its refusal. Every
-20th seed, and the genuine program, is run under valgrind too. Up to 20 differences are printed; the status is 1 where
-there is one.
+FOLDER is the output of `examples/run.sh FOLDER`. PROGRAM is a built pdb_report. The random files are those that
+checks/model makes for COUNT (200) seeds from FIRST_SEED (0) on. If the program prints a whole report, an example must
+print the same. If the program ends early, an example must print only the refusal. Every 20th seed, and the genuine
+program, also run under valgrind. Up to 20 differences are printed. The exit status is 1 if there is one.
 """
 import json
 import os
@@ -25,14 +24,15 @@ from model import with_big_stack  # noqa: E402
 from records import Fault, module_files  # noqa: E402
 
 SAMPLE = CHECKS.parent / "crates" / "pdb_report_tests" / "data" / "small_x64.json"
-# What reads the records at each call, and what reads them once, by language.
+# The examples: `report` reads the records at each call, and `opened` reads them once.
 EXAMPLES = [("report", "c"), ("opened", "c"), ("opened", "rust")]
 MOST_SHOWN = 20
 SEEDS_TO_A_CHECK = 20
 SECONDS = 120
 ADDRESS = re.compile(r"(0x)?[0-9a-fA-F]{1,8}")
 VALGRIND = ["valgrind", "--quiet", "--error-exitcode=99", "--leak-check=full"]
-# The leaks that are errors: in C, each block that isn't freed; Rust's own runtime holds one to the end.
+# The kinds of leaks that are errors. In C that is each block that isn't freed. Rust's own runtime holds one block to
+# the end.
 LEAKS = {"c": "all", "rust": "definite,indirect,possible"}
 
 Run = namedtuple("Run", "stdout status stderr")
@@ -44,8 +44,8 @@ def run(words):
 
 
 def refusal(program, path, data, command, ended):
-    """What an example has to say where the program's run ended early, by the records file's fault or by whether the
-    program refuses the records with no address too."""
+    """Returns the refusal that an example must print if the program's run ended early. It follows from the records
+    file's fault, or from whether the program also refuses the records without any address."""
     try:
         if module_files(data):
             return "module files"
@@ -59,7 +59,7 @@ def refusal(program, path, data, command, ended):
 
 
 def wanted(program, path, data, words):
-    """What an example has to leave."""
+    """Returns the run that is expected of an example."""
     if len(words) == 1:
         return Run(b"", 1, "report: no addresses\n")
     ended = run([program, path, *words])
@@ -73,7 +73,7 @@ def wanted(program, path, data, words):
 
 
 def compare(program, folder, path, data, runs, check, counts):
-    """The differences of the runs over one file."""
+    """Returns the runs over one file that differ from the expected ones."""
     found = []
     for words in runs:
         report = wanted(program, path, data, words)
@@ -92,20 +92,20 @@ def compare(program, folder, path, data, runs, check, counts):
 
 
 def seen(example, got):
-    """A run as one of `report` would be: an example that reads the records once asks for one address after the other,
-    so it may have printed the texts of those before the one that is refused, and goes by another name."""
+    """Makes a run of `opened` comparable with one of `report`. `opened` makes one call per address, so it may have
+    printed texts before the call that failed. Its messages also start with its own name."""
     if example == "report" or got.status == 0:
         return got
     return Run(b"", got.status, got.stderr.replace(f"{example}: ", "report: ", 1))
 
 
 def asked(runs):
-    """The runs of a random file that ask about addresses."""
+    """Returns the runs of a random file that look up valid addresses."""
     return [words for words in runs if words[:1] in (["frames"], ["names"]) and all(map(ADDRESS.fullmatch, words[1:]))]
 
 
 def sample_runs():
-    """Runs over the genuine program: some 300 addresses all over its sections."""
+    """Returns runs over the genuine program, with up to 300 addresses spread over its sections."""
     sections = json.loads(SAMPLE.read_bytes())["address_map"]
     places = [section["virtual_address"] + n for section in sections for n in range(0, section["virtual_size"], 37)]
     words = [f"{place:x}" for place in places[::len(places) // 300 + 1]]

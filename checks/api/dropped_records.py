@@ -1,10 +1,10 @@
 #!/usr/bin/env python3
-"""Shows that frames can't outlive the records: a program in which the records are dropped before the frames that were
-found over them is refused by the compiler, and the same program is taken where the records stay.
+"""Shows that frames can't outlive the records. The compiler refuses a program that drops the records before the frames
+that were found in them. It accepts the same program if the records are kept.
 
 usage: dropped_records.py
 
-It prints what the compiler says, and ends with status 0 where it is as said. Nothing is proved.
+The script prints the compiler's errors. Its exit status is 0 if the compiler did both. Nothing is proved.
 """
 
 import pathlib
@@ -37,7 +37,7 @@ fn main(rt: HostRuntime) -> anyhow::Result<()> {
 
 
 def program(open_block="", close_block=""):
-    """The program, with something before the records and behind the frames."""
+    """Returns the program's text, with code inserted before the records are read and after the frames are found."""
     texts = {"@records": RECORDS, "@address": ADDRESS, "@open": open_block, "@close": close_block}
     text = PROGRAM
     for mark, there in texts.items():
@@ -50,7 +50,7 @@ DROPPED = program("    let frames = {\n", "    frames\n    };\n")
 
 
 def tried(crate, source):
-    """How an unproved run of the program ended, and what was said of it."""
+    """Runs the program without proving it. Returns its exit status and its output."""
     (crate / "src" / "main.rt").write_text(source)
     records = ROOT / "crates" / "pdb_report" / "data" / "a.json"
     ran = subprocess.run(

@@ -1,12 +1,16 @@
 #!/usr/bin/env python3
-"""Has the built pdb_symbolizer export PDB files, and compares what is said of the PDB file and of the records files.
+"""Exports PDB files by the built pdb_symbolizer, and compares answers over the PDB file with those over the records
+files.
 
 Usage: export.py PROGRAM REPORT PDB ADDRESSES
 
-ADDRESSES is a file with an address a line, each of which lies in a function. The PDB file is exported as one records
-file, and as one with a file for each module; both are exported again, which has to give the same bytes. Of each address
-pdb_symbolizer has to say the same of the PDB file and of both records files, and the built pdb_report has to print the
-same frames of both; where a procedure's type can't be printed, pdb_symbolizer has its symbol's name, and pdb_report none.
+ADDRESSES is a file with one address per line. Each must be inside a function. The script checks these:
+
+  - The PDB file is exported as one records file, and as one with a file for each module. Exporting either again gives
+    the same bytes.
+  - PROGRAM, the built pdb_symbolizer, gives the same answers over the PDB file and over both records files.
+  - REPORT, the built pdb_report, prints the same frames for both. If a procedure's type can't be printed,
+    pdb_symbolizer prints its symbol's name, and pdb_report prints no name.
 """
 import itertools
 import json
@@ -21,18 +25,18 @@ AT_ONCE = 1000
 
 
 def run(*words, text=None):
-    """What a program prints."""
+    """Returns the standard output of a program."""
     return subprocess.run(words, input=text, capture_output=True, text=True, check=True).stdout
 
 
 def frame_line(frame):
-    """A frame as pdb_report prints it. A row may have the line 0; that of a frame without a file is not known."""
+    """Formats a frame as pdb_report does. A row may have the line 0. The line of a frame without a file is unknown."""
     known = {"Line": "0"} if frame["FileName"] else {}
     return FRAME.format(**{key: frame[key] or unknown for key, unknown in (UNKNOWN | known).items()})
 
 
 def report_of(answer):
-    """The answer as pdb_report prints it."""
+    """Formats an answer as pdb_report does."""
     frames = answer["Symbol"]
     if not frames:
         return ""
@@ -40,20 +44,20 @@ def report_of(answer):
 
 
 def answers(program, file, addresses):
-    """What pdb_symbolizer says of a file."""
+    """Returns pdb_symbolizer's answers over a file."""
     text = run(program, "--output-style=JSON", file, text="".join(f"{address}\n" for address in addresses))
     return [json.loads(line) | {"ModuleName": ""} for line in text.splitlines()]
 
 
 def report(program, records, addresses):
-    """What pdb_report prints of a records file, a thousand addresses at once."""
+    """Returns what pdb_report prints for a records file, a thousand addresses per run."""
     begun = iter(addresses)
     parts = iter(lambda: [*itertools.islice(begun, AT_ONCE)], [])
     return "".join(run(program, records, "frames", *part) for part in parts)
 
 
 def same_frames(printed, lines):
-    """Whether pdb_report printed these lines, but for names that it doesn't know."""
+    """Returns whether pdb_report printed these lines. It may print `<unknown>` for any function's name."""
     pairs = [*zip(printed.splitlines(), lines.splitlines())]
     unknown = FRAME.split("{")[0] + UNKNOWN["FunctionName"]
     return len(printed.splitlines()) == len(lines.splitlines()) and all(
@@ -61,7 +65,7 @@ def same_frames(printed, lines):
 
 
 def exported(program, folder, source, name):
-    """A records file of a source, and one with a file for each module."""
+    """Exports a source as one records file, and as one with a file for each module."""
     whole, parted = folder / f"{name}.json", folder / f"{name}.parted.json"
     run(program, "--export", whole, source)
     run(program, "--export", parted, "--modules", f"{name}.modules", source)
@@ -69,7 +73,7 @@ def exported(program, folder, source, name):
 
 
 def texts(records):
-    """The bytes of a records file and of its module files."""
+    """Returns the bytes of a records file and of its module files."""
     modules = sorted((records.parent / f"{records.name.split('.')[0]}.modules").glob("*.json"))
     return [file.read_bytes() for file in ([records, *modules] if ".parted" in records.name else [records])]
 

@@ -1,14 +1,15 @@
 #!/usr/bin/env python3
-"""Plants bugs in what reads PDB files and in `pdb_symbolizer` where no clause stands, and shows which of them a stored
-run sees.
+"""Plants bugs in code that no clause covers, in the readers of PDB files and in `pdb_symbolizer`, and shows which of
+them change a stored output.
 
-Usage: planted_bugs.py [JOBS [NAME ..]]     in the repository; needs `rt`, and about a minute of processor for each bug
+Usage: planted_bugs.py [JOBS [NAME ..]]     in the repository; needs `rt`, and about a minute of CPU time for each bug
 
-`planted_bugs.txt` has the bugs: a line `bug NAME`, a line `file PATH`, and lines `old TEXT` and `new TEXT`, of which the
-first stands once in the file. Each is planted in a copy of the crates, and `rt try`, which proves nothing, runs
-`pdb_container_tests` over its files, or `pdb_symbolizer_tests` for a bug of that program's. A bug is caught where the
-run writes something else than is stored, or doesn't end well. One that isn't has its reason in a line `why TEXT`. The
-script fails where a bug that has no reason isn't caught, where one that has a reason is, and where one can't be planted.
+`planted_bugs.txt` lists the bugs. Each has the lines `bug NAME`, `file PATH`, `old TEXT` and `new TEXT`. The old text
+must be in the file exactly once. Each bug is planted in a copy of the crates. Then `rt try`, which proves nothing, runs
+`pdb_container_tests` over its files, or `pdb_symbolizer_tests` for a bug of that program. A bug is caught if the
+standard output differs from the stored one. A bug that isn't caught must have its reason in a line `why TEXT`.
+
+The script fails if a bug without a reason isn't caught, if a bug with a reason is caught, or if a bug can't be planted.
 """
 import concurrent.futures
 import pathlib
@@ -19,7 +20,7 @@ import tempfile
 
 HERE = pathlib.Path(__file__).resolve().parent
 ROOT = HERE.parents[1]
-# The tests that run what a crate has; those of the readers are of all others.
+# The tests to run for a bug, by the name of its crate or file. All other bugs belong to the readers.
 SYMBOLIZER = "pdb_symbolizer_tests"
 RUNS = {name: SYMBOLIZER for name in (
     "pdb_symbolizer_lib", "pdb_answer_printer", "pdb_symbolication", "pdb_session", "pdb_identity", "identity.rt",
@@ -28,7 +29,7 @@ READERS = "pdb_container_tests"
 
 
 def bugs():
-    """The bugs of the list, each with its words by their first ones."""
+    """Reads the list of bugs. Each bug is a dict of its lines, by their first word."""
     found = []
     for line in (HERE / "planted_bugs.txt").read_text(encoding="utf-8").splitlines():
         word, _, rest = line.partition(" ")
@@ -40,7 +41,7 @@ def bugs():
 
 
 def outcome(bug):
-    """Whether a bug is caught, or that it can't be planted."""
+    """Plants a bug, and returns whether it is caught, or why it can't be planted."""
     with tempfile.TemporaryDirectory(prefix="planted-bug-") as room:
         shutil.copytree(ROOT / "crates", f"{room}/crates", ignore=shutil.ignore_patterns("out", "proofs"))
         for name in ("crates.txt", "HANDLES"):

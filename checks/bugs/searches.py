@@ -1,12 +1,13 @@
 #!/usr/bin/env python3
-"""Shows that tables are searched, and not that the records are scanned in their place.
+"""Shows that lookups search their tables and don't scan the records instead.
 
-Usage: searches.py      in the repository; needs `rt`, and takes some four minutes
+Usage: searches.py      in the repository; needs `rt`, and takes about four minutes
 
-A body that scans the records and never asks its table would meet the same contract, so no wrong body shows this. In a
-copy of the crates the clause on the value is struck from `Segments::find`, and then from `StackTable::find`. What
-stands on a search must then be proved no longer: the searches of contributions, procedures and whole stacks, and with
-the last the stack that frames are answered by. The script fails where one of them is still proved.
+A body that scans the records and ignores its table would satisfy the same contract, so no wrong body can show this. The
+script removes the clause about the result from `Segments::find`, and in another run from `StackTable::find`, in a copy
+of the crates. The functions that rely on that search must then fail to prove: the searches for contributions,
+procedures and whole stacks, and the lookup of the stack from which frames are made. The script fails if one of them is
+still proved.
 """
 import pathlib
 import re
@@ -27,7 +28,7 @@ CASES = [
 
 
 def strike(crates, clause):
-    """Takes a clause out of the function that it stands in. Answers the file and the text that it had."""
+    """Removes a clause from its function. Returns the file and its old text."""
     name, function, text = clause
     path = crates / name
     before = path.read_text(encoding="utf-8")
@@ -37,7 +38,7 @@ def strike(crates, clause):
 
 
 def proved(folder, functions):
-    """The functions of a crate that a check proves, of those named."""
+    """Returns which of these functions a check of the crate proves, and the check's output."""
     words = ["rt", "check"] + [word for function in functions for word in ("--only", function)]
     said = subprocess.run(words, cwd=folder, capture_output=True, text=True, errors="replace").stdout
     return [f for f in functions if re.search(rf"^fn \S*{re.escape(f)}: proved$", said, re.M)], said

@@ -4,12 +4,19 @@
 Usage: wrong_bodies.py [CRATE ..]     in the repository; needs `rt`. With no crate it tries those of all crates
        wrong_bodies.py --count        counts the wrong bodies of each crate, and those that the gate tries
 
-In a copy of the repository the edits in crates/CRATE/wrong-bodies take the place of those in must-fail, and
-`rt must-fail CRATE ..` tries them. Libraries that `rt check` or `rt lib` built in this repository are copied too; what is
-missing is proved first. Each edit has a line: whether it was refused at an open goal, at a written answer that no longer
-fits, for a name that a proof file lost, or by a limit of the prover; or was proved; or can't be applied or compiled; or
-wasn't tried. Only the first of these says that the contract catches the wrong body. The script fails if an edit was
-proved or couldn't be tried.
+In a copy of the repository, the edits in crates/CRATE/wrong-bodies replace those in must-fail, and `rt must-fail CRATE
+..` tries them. Libraries that `rt check` or `rt lib` built in this repository are copied too; missing ones are proved
+first. The script prints one line for each edit, with one of these results:
+
+  - refused at an open goal: only this says that the contract catches the wrong body
+  - refused at a written answer that no longer fits
+  - refused for a name that a proof file lost
+  - refused by a limit of the prover
+  - proved
+  - can't be applied or compiled
+  - not tried
+
+The script fails if an edit has one of the last three results.
 """
 import collections
 import pathlib
@@ -21,7 +28,7 @@ import tempfile
 
 ROOT = pathlib.Path(__file__).resolve().parents[2]
 TRIED = re.compile(r"rt: must-fail (\w+/\S+\.edit): (.*)")
-# What `rt ci` says of an edit, and what that comes to. The first that fits counts.
+# What `rt must-fail` prints for an edit, and the result that this means. The first pattern that matches counts.
 OUTCOMES = [
     (r"NOT REFUSED", "proved"),
     (r"BAD EDIT", "can't be applied or compiled"),
@@ -35,12 +42,12 @@ FAILURES = {"proved", "can't be applied or compiled", "not tried"}
 
 
 def edits(crate, folder):
-    """The edits in a folder of a crate."""
+    """Returns the edits in a folder of a crate."""
     return sorted((crate / folder).glob("*.edit"))
 
 
 def count():
-    """Prints how many wrong bodies each crate has, and how many of them the gate tries."""
+    """Prints the number of wrong bodies that the gate tries for each crate, and the number of the others."""
     print("crate, tried by the gate, beside it")
     totals = [0, 0]
     for crate in sorted((ROOT / "crates").iterdir()):
@@ -52,7 +59,7 @@ def count():
 
 
 def copy_with_wrong_bodies(room, names):
-    """Copies the repository's crates to a folder, with the wrong bodies of some as their must-fail edits."""
+    """Copies the repository's crates to a folder. The wrong bodies of the named crates become their must-fail edits."""
     for name in ("crates.txt", "HANDLES"):
         shutil.copy(ROOT / name, room)
     shutil.copytree(ROOT / "crates", room / "crates", ignore=shutil.ignore_patterns("incremental", "must-fail"))
@@ -61,12 +68,12 @@ def copy_with_wrong_bodies(room, names):
 
 
 def outcome(said):
-    """What it comes to that an edit was answered so."""
+    """Returns the result that a message about an edit means."""
     return next(comes_to for words, comes_to in OUTCOMES if re.search(words, said))
 
 
 def try_all(names):
-    """Tries the wrong bodies of some crates, and prints each with what it came to. Answers how often each came."""
+    """Tries the wrong bodies of the named crates, and prints the result of each. Returns the number of each result."""
     counts = collections.Counter()
     with tempfile.TemporaryDirectory(prefix="wrong-bodies-") as room:
         copy_with_wrong_bodies(pathlib.Path(room), names)

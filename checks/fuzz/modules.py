@@ -1,15 +1,18 @@
 #!/usr/bin/env python3
-"""Compares what the built pdb_symbolizer answers of PDB files, of which it reads what addresses ask for, with what it
-answers of all their records.
+"""Compares the answers of the built pdb_symbolizer over PDB files with its answers over all their records. From a PDB
+file it reads only what the addresses need.
 
 Usage: modules.py PROGRAM COUNT [SEED] [PDB..]
 
-With no PDB file those in the crates' `data` are taken. Of each file as it is, and of COUNT copies with changes as those
-of pdb_files.py, all records are written by `--export` as a records file, of which nothing is read later than the rest.
-Asked for are 40 addresses, of the functions that the records list and others, in one run by words and in one by lines
-of standard input. Answers and statuses have to be the same byte for byte; and so have the lines on standard error, but
-that a module which no address asks for is not told of. Where `--dump-syms`, which reads all of a file too, refuses it,
-both runs over it have to be refused in the same words.
+The files are the PDB files, by default those in the crates' `data`, and COUNT copies with changes as pdb_files.py makes
+them. `--export` writes all records of each as a records file, which is read whole. The check looks up 40 addresses,
+some in functions of the records and some elsewhere, once as arguments and once as lines of standard input.
+
+  - Answers and statuses must be the same byte for byte.
+  - Each line on standard error for the PDB file must also be there for the records file, except one about
+    /DEBUG:FASTLINK. Lines about modules that no address needs may be missing.
+  - `--dump-syms` reads a whole PDB file too. If it refuses the file, both runs over the file must refuse it with the
+    same line.
 """
 import collections
 import json
@@ -23,24 +26,24 @@ from pdb_files import mutated
 
 CRATES = pathlib.Path(__file__).resolve().parents[2] / "crates"
 COUNT = 40
-# A file that doesn't say which build it is of has answers, and no symbol file.
+# The end of a message of `--dump-syms`. A file without a debug id has answers, but no symbol file.
 NO_ID = b": no id\n"
 
 
 def run(*words, text=None):
-    """The outcome of a run: its status, standard output and standard error."""
+    """Returns a run's status, standard output and standard error."""
     ended = subprocess.run(words, input=text, capture_output=True, timeout=60)
     return ended.returncode, ended.stdout, ended.stderr
 
 
 def items(reading):
-    """What a reading has, whichever form it has."""
+    """Returns the items of a list in a records file. A list is an array, or an object with `items` and a fault."""
     found = reading.get("items", []) if isinstance(reading, dict) else reading
     return found or []
 
 
 def functions(records):
-    """Section offsets of functions that the records list."""
+    """Yields the section, offset and length of each function in the records."""
     infos = [info for info in records["module_infos"] if info and "error" not in info]
     lists = [records["global_symbols"]] + [info["symbols"] for info in infos]
     for symbols in lists:
@@ -51,7 +54,7 @@ def functions(records):
 
 
 def addresses_of(records, chance):
-    """Addresses in and beside functions, and anywhere."""
+    """Draws addresses in functions, at their ends, and anywhere."""
     places = records["address_map"] if isinstance(records["address_map"], list) else []
     found = [*functions(records)]
     drawn = [chance.choice([chance.randrange(2**32), chance.randrange(0x4000)]) for _ in range(4)]
@@ -63,12 +66,12 @@ def addresses_of(records, chance):
 
 
 def told(lines, path):
-    """Lines of standard error without the name of the file."""
+    """Counts the lines of standard error, with the file's name replaced."""
     return collections.Counter(lines.replace(str(path).encode(), b"FILE").splitlines())
 
 
 def difference(program, folder, pdb, chance):
-    """What differs of a file, if anything does, and what came of it."""
+    """Returns a text about the first difference over a file, or None, and whether the file was refused or answered."""
     path, records = folder / "file.pdb", folder / "file.json"
     path.write_bytes(pdb)
     status, _, refusal = run(program, "--dump-syms", str(path))

@@ -1,14 +1,17 @@
 #!/usr/bin/env python3
-"""Changes PDB files between the requests of one run of the built pdb_symbolizer, and reports every answer that is wrong.
+"""Changes PDB files between the requests of one run of the built pdb_symbolizer, and reports every answer that is
+wrong.
 
 Usage: open_files.py PROGRAM COUNT [SEED]
 
-The files are those of crates/pdb_symbolizer_tests/data that have one debug id. They are put under one name at random
+The files are those of crates/pdb_symbolizer_tests/data that share one debug id. They are put under one name at random
 places of two folders: directly, in a symbol store with one or two tiers, and under names in another case. Before each
-request one or two files are put in place, written over, renamed or removed. `--symbolicate-lines` answers all requests
-of a run, with a limit of memory that keeps all files, some of them, or none. What is wanted of each is the answer of
-`--symbolicate` in a new process. The same is done with lines that each name a file and an address. Lines of another
-file come between these, since a file isn't looked for again while consecutive lines name it.
+request up to two of them are added, overwritten, renamed or removed. `--symbolicate-lines` answers all requests of a
+run, with a limit of memory (`--cache-size`) that keeps all files, some of them, or none. Each answer must be that of
+`--symbolicate` in a new process.
+
+The same is done with lines that each name a file and an address. Lines of another file come between these, because a
+file isn't looked up again while consecutive lines name it.
 """
 import contextlib
 import json
@@ -32,8 +35,8 @@ ADDRESSES = [0x1000, 0x1020, 0x1050, 0x1100, 0x1104, 0x1120, 0x1200, 0x1204, 0x1
 
 
 def change(root, chance):
-    """Does something to a file, unless a folder has its name."""
-    # the system's times have steps of some milliseconds
+    """Makes a random change to a random file. Raises OSError if it can't, such as if a folder has the file's name."""
+    # File times of the system have steps of a few milliseconds.
     time.sleep(0.02)
     place = root / chance.choice(FOLDERS) / chance.choice(PLACES)
     source = DATA / f"{chance.choice(SOURCES)}.pdb"
@@ -57,19 +60,19 @@ def change(root, chance):
 
 
 def request(chance):
-    """A request for the file at some addresses."""
+    """Returns a request for the file at some addresses."""
     name = chance.choice([NAME, NAME, "APP.PDB", "aPp.pdb"])
     stack = [[0, address] for address in chance.sample(ADDRESSES, chance.choice([1, 2, 5]))]
     return json.dumps({"memoryMap": [[name, ID]], "stacks": [stack]}) + "\n"
 
 
 def named(root, chance):
-    """A line with a file and an address."""
+    """Returns a line with a file and an address."""
     return f"{root / chance.choice(FOLDERS) / chance.choice(PLACES)} 0x{chance.choice(ADDRESSES):x}\n"
 
 
 def answer_of(process, in_one_line):
-    """The next answer that a run writes: a line, or lines up to an empty one."""
+    """Reads the next answer of a run: one line, or all lines up to an empty one."""
     text = process.stdout.readline()
     while not in_one_line and text and not text.endswith("\n\n"):
         line = process.stdout.readline()
@@ -80,7 +83,7 @@ def answer_of(process, in_one_line):
 
 
 def run_faults(program, root, chance, kind):
-    """What is wrong with a run."""
+    """Returns a message for each wrong answer of one run."""
     folders = [word for folder in FOLDERS for word in ("--pdb-dir", root / folder)]
     size = chance.choice([[], ["--cache-size=0"], ["--cache-size=20000"], ["--cache-size", "60000"]])
     words = [program, *folders] + (["-p"] if kind == "named" else [])

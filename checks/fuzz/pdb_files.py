@@ -3,11 +3,15 @@
 
 Usage: pdb_files.py PROGRAM COUNT [SEED] [PDB..]
 
-With no PDB file the one of crates/pdb_symbolizer/data is taken. A copy has bits flipped, numbers made
-huge or small, blocks exchanged or named twice, numbers in the directory changed, or is cut. A run
-misbehaves where it ends by a signal, takes more than ten seconds, takes more memory than 64 MiB and 100
-bytes for each byte of the file, or has a status other than 0, 1 and 2, or other than one line on
-standard error for the statuses 1 and 2.
+Without a PDB, the files of crates/pdb_symbolizer/data are used. A copy has bits flipped, numbers made huge or small,
+blocks overwritten by others, numbers in the directory changed, or bytes filled with one value, or it is cut. A run
+misbehaves in these cases:
+
+  - It ends by a signal.
+  - It takes more than ten seconds.
+  - It takes more memory than 64 MiB plus 100 bytes for each byte of the file.
+  - Its status is not 0, 1 or 2.
+  - Its status is 1 or 2, and standard error has other than one line.
 """
 import collections
 import pathlib
@@ -24,7 +28,7 @@ NUMBERS = [0, 1, 2, 3, 4, 7, 0x7f, 0x80, 0xff, 0x1000, 0x7fff, 0x8000, 0xffff, 0
 
 
 def blocks_of(pdb):
-    """The block size, and the position of the directory's numbers in the file."""
+    """Returns the block size, and the offset and length of the first block of the directory."""
     size = struct.unpack_from("<I", pdb, 32)[0]
     length, where = struct.unpack_from("<I", pdb, 44)[0], struct.unpack_from("<I", pdb, 52)[0]
     first = struct.unpack_from("<I", pdb, where * size)[0]
@@ -32,7 +36,7 @@ def blocks_of(pdb):
 
 
 def flipped(pdb, chance):
-    """Some bits turned."""
+    """Flips some bits."""
     out = bytearray(pdb)
     for _ in range(chance.choice([1, 1, 2, 8, 64])):
         out[chance.randrange(len(out))] ^= 1 << chance.randrange(8)
@@ -40,7 +44,7 @@ def flipped(pdb, chance):
 
 
 def numbered(pdb, chance):
-    """A number of one, two or four bytes in the place of another, some of them at multiples of four."""
+    """Overwrites numbers of one, two or four bytes, some of them at multiples of four."""
     out = bytearray(pdb)
     for _ in range(chance.choice([1, 1, 2, 4])):
         width = chance.choice([1, 2, 4])
@@ -51,7 +55,7 @@ def numbered(pdb, chance):
 
 
 def redirected(pdb, chance):
-    """A number of the directory or of the superblock changed: a length, a block, a count."""
+    """Overwrites numbers of the directory or the superblock: a length, a block, a count."""
     out = bytearray(pdb)
     size, start, length = blocks_of(pdb)
     length = min(length, len(pdb) - start)
@@ -63,7 +67,7 @@ def redirected(pdb, chance):
 
 
 def exchanged(pdb, chance):
-    """A block's bytes in another's place."""
+    """Overwrites a block by another one."""
     out = bytearray(pdb)
     size = blocks_of(pdb)[0]
     count = len(pdb) // size
@@ -73,12 +77,12 @@ def exchanged(pdb, chance):
 
 
 def cut(pdb, chance):
-    """The front of the file."""
+    """Cuts the file at a random place."""
     return bytearray(pdb[:chance.randrange(len(pdb))])
 
 
 def filled(pdb, chance):
-    """A run of one byte."""
+    """Overwrites a range by one repeated byte."""
     out = bytearray(pdb)
     at, length = chance.randrange(len(out)), chance.choice([2, 4, 16, 256, 4096])
     out[at:at + length] = bytes([chance.choice([0, 0xff, 0x80, 0xf1])]) * len(out[at:at + length])
@@ -89,7 +93,7 @@ KINDS = [flipped, numbered, redirected, exchanged, cut, filled]
 
 
 def misbehaviour(program, path, length):
-    """What is wrong with a run on this file, if anything is."""
+    """Returns what is wrong with a run on this file, or None, and the run's status."""
     most = 64 * 2**20 + 100 * length
     try:
         run = subprocess.run(
@@ -107,7 +111,7 @@ def misbehaviour(program, path, length):
 
 
 def mutated(pdb, chance):
-    """The file with one to three changes."""
+    """Applies one to three changes."""
     for _ in range(chance.choice([1, 1, 1, 2, 3])):
         if len(pdb) > 64:
             kind = chance.choice(KINDS)

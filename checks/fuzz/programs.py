@@ -3,12 +3,15 @@
 
 Usage: programs.py PROGRAM COUNT [SEED]
 
-The program of crates/pdb_symbolizer/data is taken, with its PDB file beside it. A copy has bits flipped, numbers of its
-headers, its debug directory and its CodeView record made huge or small, another path in that record (with `..`, a
-device, a folder, thousands of characters, no zero), or is cut. A run misbehaves where it ends by a signal, takes more
-than ten seconds or more than 1 GiB of addresses, has a status other than 0, 1 and 2, or prints nothing on standard error for
-the statuses 1 and 2; or where it opens a file that is neither named in the words, nor in the program, nor under the
-folder of `--pdb-dir` (seen by strace for each hundredth copy).
+The program is shapes.exe of crates/pdb_symbolizer/data, with its PDB file next to it. A copy has bits flipped, or huge
+and small numbers in its headers, its debug directory and its CodeView record. Or it has another path in that record
+(with `..`, a device, a folder, thousands of characters), or it is cut. A run misbehaves in these cases:
+
+  - It ends by a signal, or its status is not 0, 1 or 2.
+  - It takes more than ten seconds, or more than 1 GiB of address space.
+  - Its status is 1 or 2, and it prints nothing on standard error.
+  - It opens a file that isn't named by the arguments or by the program, and isn't in the folder of `--pdb-dir`. strace
+    checks this for every hundredth copy.
 """
 import pathlib
 import random
@@ -30,20 +33,21 @@ LIBRARIES = re.compile(rb'(/etc/ld\.so|/lib|/usr/lib|/proc/self/(maps|auxv)|/sys
 
 
 def headers_of(program):
-    """Where numbers stand that matter: the headers, the debug directory, the record."""
+    """Returns the ranges of bytes to change, and the offset of the CodeView record. The ranges are the offset of the PE
+    header, the headers, and the debug directory with the record."""
     start = struct.unpack_from("<I", program, 60)[0]
     record = program.index(b"RSDS")
     return [(60, 64), (start, start + 24 + 240 + 40 * 4), (record - 60, record + 40)], record
 
 
 def with_path(program, record, path):
-    """The program with another path in its record, at its end, where there is room for it."""
+    """Overwrites the path in the CodeView record, and as many bytes after it as the new path needs."""
     made = program[:record + 24] + path + b"\0"
     return made + program[len(made):]
 
 
 def mutated(program, draw):
-    """The program with a few changes."""
+    """Applies a few changes."""
     ranges, record = headers_of(program)
     program = bytearray(program)
     for _ in range(draw.choice([1, 1, 2, 3, 8])):
@@ -69,8 +73,8 @@ def limits():
 
 
 def is_named(path, program):
-    """Whether a run on a program may open this path: its own file, the path that the program names, or that path's last
-    part. Either may be cut, since a number of the program says how long its record is."""
+    """Returns whether a run on a program may open this path: its own file, the path in the program, or a last part of
+    that path. Either may be cut short, because the program also says how long its record is."""
     at = program.find(b"RSDS")
     written = program[at + 24:].split(b"\0")[0] if at >= 0 else b""
     parts = [written, *(written[slash.end():] for slash in re.finditer(rb"[/\\]", written))]
@@ -78,7 +82,7 @@ def is_named(path, program):
 
 
 def strangers(trace, program):
-    """The files that a run opened and that nobody named."""
+    """Returns the files that a run opened and that nothing named."""
     found = re.findall(r'open(?:at)?\((?:AT_FDCWD, )?"((?:\\x[0-9a-f]{2})*)"', trace)
     paths = [bytes.fromhex(path.replace("\\x", "")) for path in found]
     return [path for path in paths if not is_named(path, program) and not path.startswith(b"symbols/")
@@ -86,14 +90,14 @@ def strangers(trace, program):
 
 
 def complaint(run):
-    """What is wrong with a run, or None."""
+    """Returns what is wrong with a run, or None."""
     if run.returncode not in (0, 1, 2):
         return f"status {run.returncode}"
     return None if run.returncode == 0 or run.stderr else "no line on standard error"
 
 
 def outcome(program, room, copy, traced):
-    """The status of a run on a copy, and what is wrong with it, if anything is."""
+    """Runs the program on a copy. Returns the status, and what is wrong with the run, or None."""
     (room / "copy.exe").write_bytes(copy)
     asked = [program, "--pdb-dir", "symbols", "copy.exe", "0x140001136"]
     if traced:

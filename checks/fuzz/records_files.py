@@ -1,10 +1,14 @@
 #!/usr/bin/env python3
-"""Runs the built program on mutated records files, and reports every run that misbehaves.
+"""Runs the built pdb_report on mutated records files, and reports every run that misbehaves.
 
 Usage: records_files.py PROGRAM COUNT [SEED]
 
-A run misbehaves where it ends by a signal or takes more than ten seconds, where its status is none of
-0, 1 and 2, or where standard error has other than one line for the statuses 1 and 2, or any for 0.
+A run misbehaves in these cases:
+
+  - It ends by a signal, or its status is not 0, 1 or 2.
+  - It takes more than ten seconds.
+  - Its status is 1 or 2, and standard error has other than one line.
+  - Its status is 0, and standard error has a line.
 """
 import pathlib
 import random
@@ -18,7 +22,7 @@ ADDRESSES = ["0", "1000", "1010", "1025", "2000", "7fffffff", "fffffff0", "fffff
 
 
 def number_at(text, random):
-    """Puts another number in the place of one."""
+    """Replaces a number by another one."""
     starts = [i for i, b in enumerate(text) if chr(b).isdigit() and not chr(text[i - 1]).isdigit()]
     if not starts:
         return text
@@ -30,7 +34,7 @@ def number_at(text, random):
 
 
 def mutated(text, random):
-    """The text with one change."""
+    """Applies one change."""
     a, b = sorted((random.randrange(len(text) + 1), random.randrange(len(text) + 1)))
     b = min(b, a + random.choice([1, 2, 8, 64, 4096]))
     kind = random.randrange(8)
@@ -55,7 +59,7 @@ def mutated(text, random):
 
 
 def misbehaviour(program, path):
-    """What is wrong with a run on this file, if anything is."""
+    """Returns what is wrong with a run on this file, or None."""
     try:
         run = subprocess.run([program, path, "names"] + ADDRESSES, capture_output=True, timeout=10)
     except subprocess.TimeoutExpired:

@@ -1,30 +1,33 @@
 #!/usr/bin/env python3
-"""Runs the built program with each of its growths refused, and reports every run that ends otherwise than it may.
+"""Runs the built program with each of its memory allocations failing in turn, and reports every run that ends in a way
+it must not.
 
 Usage: refused_growths.py PROGRAM [CALLS_PROGRAM]
 
-PROGRAM is a built pdb_report. An allocator is compiled with gcc (or $CC) and preloaded, which refuses the Nth growth
-alone, or each from the Nth on. N goes over all growths of each case; where there are very many, over the first, the
-last, and some between. A case is a run of crates/pdb_report_tests/data/cases.txt with what is wanted of it. It may end
+PROGRAM is a built pdb_report. The script compiles an allocator with gcc (or $CC) and preloads it. The allocator fails
+the Nth allocation alone, or each from the Nth on. N goes over all allocations of each case. If there are very many, it
+goes over the first, the last, and some between. A case is a run of crates/pdb_report_tests/data/cases.txt with its
+expected output. The run may end in these ways:
 
-- as wanted: what was refused wasn't needed, or it was asked for again;
-- with status 1 and `Out of memory`, behind no text or that of the first addresses: memory ran out anywhere but while
-  the file's text was read;
-- with status 2 and `out of memory` behind the file's name, and no text: it ran out while that text was read, before
-  any look-up.
+- as expected: the allocation wasn't needed, or was made again;
+- with status 1 and `Out of memory`, after no text or after whole texts of the first addresses: memory ran out after the
+  file was read;
+- with status 2, no text, and `out of memory` after the file's name: memory ran out while the file was read, before any
+  lookup.
 
-It may not end with `cannot read` or `cannot write`: the file can be read, the lines can be written, and out of memory
-is distinguished from both. Nor by a signal, past ten seconds, with another line, or with a part of an address's text.
+It must not end with `cannot read` or `cannot write`, because the file can be read and the lines can be written. It must
+not end by a signal, take more than ten seconds, print another line, or print a part of an address's text.
 
-CALLS_PROGRAM is a built pdb_call_tests. It is run over the lists of calls for each records file of calls.txt, with
-single growths refused. A call that has no memory is made again to the same context, and the calls behind it then. The
-run may end
+CALLS_PROGRAM is a built pdb_call_tests. It runs over the lists of calls for each records file of calls.txt, with single
+allocations failing. A call that runs out of memory is made again with the same context, and the calls after it follow.
+The run may end in these ways:
 
-- as wanted, with a call made again or without;
-- with one list that differs, where a call was made again and the list is one of broken parts: the call that met such a
-  part first and then had no memory may answer, when it is made again, that the part failed before;
-- early with status 1, or with no answers to lists over a file that it couldn't read, where a growth of the program's
-  own was refused.
+- as expected, with a call made again or without;
+- with one list that differs, if a call was made again and the list is about broken parts. The call may have found such
+  a
+  part and then run out of memory. Made again, it may answer that the part failed before;
+- early with status 1, or without answers over a file that it couldn't read, if an allocation of the test program itself
+  failed.
 """
 import concurrent.futures
 import os
@@ -39,7 +42,7 @@ HERE = pathlib.Path(__file__).resolve().parent
 CRATES = HERE.parents[1] / "crates"
 SECONDS = 10
 WORKERS = max(1, (os.cpu_count() or 1) // 2)
-# What a run of cases.txt begins with; the first such run is the case.
+# How each run of cases.txt begins. The case is the first run that begins like this.
 RUNS = [
     "public_symbol.json names 1005",
     "public_symbol.json frames 1005",
@@ -66,7 +69,7 @@ RUNS = [
     "small_x64.json frames",
     "small_x64.json list",
 ]
-# How many of the growths of a case are refused at least at its start and its end, and about how many between.
+# At most this many allocations fail at the start of a case and as many at its end (NEAR), and about this many between.
 NEAR, BETWEEN = 500, 6000
 CALLS_NEAR, CALLS_BETWEEN = 200, 600
 MODES = ("REFUSE_AT", "REFUSE_FROM")
@@ -86,7 +89,7 @@ Run = namedtuple("Run", "status stdout stderr")
 
 
 def cases():
-    """The cases, in order."""
+    """Yields the cases, in the order of RUNS."""
     text = (CRATES / "pdb_report_tests" / "data" / "cases.txt").read_text()
     runs = [run.split("\n", 1) for run in re.split(r"(?m)^\$ pdb_report ", text)[1:]]
     for start in RUNS:
@@ -94,7 +97,7 @@ def cases():
 
 
 def case(words, rest):
-    """The case of a run with these words, of which the rest of its text says what is wanted."""
+    """Makes a case of a run's command line and of the text after it, which has the expected output and status."""
     printed, status = re.fullmatch(r"(.*?)status (\d)\n\n?", rest, re.S).groups()
     lines = printed.splitlines(True)
     stderr = lines.pop() if status != "0" else ""
@@ -103,7 +106,7 @@ def case(words, rest):
 
 
 def answer_ends(stdout):
-    """The lengths of the beginnings of a text that end at the end of an answer."""
+    """Returns the lengths of all beginnings of a text that end where an answer ends."""
     ends = {0, len(stdout)}
     for line in re.finditer(rb"(?m)^(?!     )", stdout):
         ends.add(line.start())
@@ -111,7 +114,7 @@ def answer_ends(stdout):
 
 
 def ask(program, words, folder, library, counts_file, **refusal):
-    """A run of the program with growths refused."""
+    """Runs the program with failing allocations."""
     environment = dict(os.environ, LD_PRELOAD=str(library), COUNT_TO=str(counts_file))
     environment.update({name: str(number) for name, number in refusal.items()})
     done = subprocess.run([program, *words], cwd=folder, env=environment, capture_output=True, timeout=SECONDS,
@@ -120,13 +123,13 @@ def ask(program, words, folder, library, counts_file, **refusal):
 
 
 def counts(counts_file):
-    """How many growths the last run asked for, and how many of them were refused."""
+    """Returns how many allocations the last run made, and how many of them failed."""
     calls, refused = counts_file.read_text().split()
     return int(calls), int(refused)
 
 
 def outcome(case, run):
-    """What a run under a refusal came to, or None where it may not end so."""
+    """Returns the kind of end of a run with failing allocations, or None if it must not end so."""
     name = case.words[0].encode()
     if run == Run(case.status, case.stdout, case.stderr):
         return AS_WANTED
@@ -139,14 +142,15 @@ def outcome(case, run):
 
 
 def numbers(calls, near, between):
-    """Which growths are refused, of so many."""
+    """Returns the numbers of the allocations to fail, of `calls` in all."""
     step = max(1, (calls - 2 * near) // between)
     chosen = {*range(1, near + 1), *range(near, calls, step), *range(calls - near, calls + 1)}
     return sorted(number for number in chosen if 0 < number <= calls)
 
 
 def trial(program, case, library, folder, mode, number):
-    """The outcome of a run with a growth refused and how many were; the outcome None has the run beside it."""
+    """Returns the outcome of a run with a failing allocation, the number of allocations that failed, and the run. The
+    outcome is None if none failed."""
     counts_file = folder / f"{mode}-{number}"
     try:
         run = ask(program, case.words, case.folder, library, counts_file, **{mode: number})
@@ -160,7 +164,8 @@ def trial(program, case, library, folder, mode, number):
 
 
 def trials(program, case, library, folder):
-    """The arguments of all trials of a case, after a run with no refusal that has to be as wanted."""
+    """Returns the arguments of all trials of a case. First it runs the case without a failing allocation, which must
+    end as expected."""
     counts_file = folder / "counts"
     run = ask(program, case.words, case.folder, library, counts_file)
     if outcome(case, run) != AS_WANTED:
@@ -172,7 +177,7 @@ def trials(program, case, library, folder):
 
 
 def over_cases(program, library, folder, seen):
-    """Tries all cases, counts the outcomes, and gives how many growths were refused."""
+    """Tries all cases and counts the outcomes. Returns the number of allocations that failed."""
     growths = 0
     with concurrent.futures.ThreadPoolExecutor(WORKERS) as pool:
         for case in cases():
@@ -186,7 +191,7 @@ def over_cases(program, library, folder, seen):
 
 
 def calls_outcome(wanted, lists, run):
-    """What a run of pdb_call_tests over these lists came to with one growth refused, or None where it may not end so."""
+    """Returns the kind of end of a run of pdb_call_tests with one failing allocation, or None if it must not end so."""
     if run.status == 1 and run.stderr.count(b"\n") == 1 and b"emory" in run.stderr:
         return ENDS_EARLY
     if run.status or run.stderr:
@@ -206,7 +211,7 @@ def calls_outcome(wanted, lists, run):
 
 
 def calls_folder(folder, name, lists):
-    """A folder of questions that has these lists of calls alone."""
+    """Makes a folder of test data in which calls.txt has only these lists of calls."""
     folder = folder / name
     folder.mkdir()
     (folder / name).symlink_to(CRATES / "pdb_call_tests" / "data" / name)
@@ -216,7 +221,7 @@ def calls_folder(folder, name, lists):
 
 
 def calls_trial(program, wanted, lists, library, folder, number):
-    """The outcome of a run of pdb_call_tests with a growth refused, and the run."""
+    """Returns the outcome of a run of pdb_call_tests with a failing allocation, and the run."""
     try:
         run = ask(program, [], folder, library, folder / f"counts-{number}", REFUSE_AT=number)
     except subprocess.TimeoutExpired:
@@ -225,7 +230,7 @@ def calls_trial(program, wanted, lists, library, folder, number):
 
 
 def over_calls(program, library, folder):
-    """Tries pdb_call_tests over the lists for each records file, and gives the outcomes with their counts."""
+    """Tries pdb_call_tests over the lists for each records file. Returns the number of each outcome."""
     seen = Counter()
     text = (CRATES / "pdb_call_tests" / "data" / QUESTIONS[0]).read_text()
     for part in text.split("file ")[1:]:
@@ -235,7 +240,7 @@ def over_calls(program, library, folder):
 
 
 def over_lists(program, name, lists, library, folder):
-    """Tries the lists of calls for one records file, and gives the outcomes with their counts."""
+    """Tries the lists of calls for one records file. Returns the number of each outcome."""
     run = ask(program, [], folder, library, folder / "counts-0", REFUSE_AT=0)
     if run.status or b" 0 differ" not in run.stdout:
         sys.exit(f"{name}: not as wanted with no growth refused: {run}")
@@ -253,7 +258,7 @@ def over_lists(program, name, lists, library, folder):
 
 
 def compiled(folder):
-    """The allocator, compiled into this folder."""
+    """Compiles the failing allocator into this folder."""
     library = folder / "refusing_allocator.so"
     subprocess.run([os.environ.get("CC", "gcc"), "-O2", "-shared", "-fPIC", "-o", library,
                     HERE / "refusing_allocator.c"], check=True)
@@ -261,7 +266,7 @@ def compiled(folder):
 
 
 def show(seen, names):
-    """Prints how often each outcome was seen, and gives how many never were, but for `as wanted`."""
+    """Prints the number of each outcome. Returns how many outcomes never occurred, not counting `as wanted`."""
     for name in names:
         print(f"{seen[name]:8d}  {name}")
     return sum(not seen[name] for name in names if name != AS_WANTED)

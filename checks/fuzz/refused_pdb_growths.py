@@ -1,13 +1,18 @@
 #!/usr/bin/env python3
-"""Runs the built pdb_symbolizer over small PDB files with each of its growths refused, and reports every run that ends
-otherwise than it may.
+"""Runs the built pdb_symbolizer over small PDB files with each of its memory allocations failing in turn, and reports
+every run that ends in a way it must not.
 
 Usage: refused_pdb_growths.py PROGRAM
 
-The Nth growth alone is refused, and each from the Nth on, as by refused_growths.py. N goes over all growths of a run. A
-run may end as wanted, where what was refused wasn't needed; or with the status 1 and `Out of memory` as the last line on
-standard error, behind whole answers of the first addresses and beginnings of the lines that are wanted there. It may not
-end otherwise, by a signal or past ten seconds. Behind each such run the same questions are asked again.
+The Nth allocation fails alone, or each from the Nth on, as in refused_growths.py. N goes over all allocations of a run.
+A run may end in these ways:
+
+- as expected, if the failed allocation wasn't needed
+- with status 1 and `Out of memory` as the last line on standard error. Standard output then has whole answers of the
+  first addresses, and the rest of standard error is a beginning of the expected lines.
+
+It must not end in another way, by a signal, or after more than ten seconds. After each case the same lookups must still
+give the expected answers.
 """
 import concurrent.futures
 import os
@@ -21,7 +26,7 @@ from refused_growths import MODES, SECONDS, WORKERS, Run, compiled, counts
 
 CRATES = pathlib.Path(__file__).resolve().parents[2] / "crates"
 MEMORY = b"pdb_symbolizer: Out of memory\n"
-# The folder of a case in the crates, its words, and the lines of its standard input.
+# For each case: its folder in the crates, its arguments, and the lines of its standard input.
 CASES = [
     ("pdb_symbolizer/data", ["-p", "shapes.pdb", "0x1136", "0x10b0", "0x1180"], b""),
     ("pdb_symbolizer/data", ["-p", "shapes.pdb"], b"0x1136\n0x10b0\n0x1180\n"),
@@ -35,7 +40,8 @@ AS_WANTED, BEHIND_ANSWERS, AT_FIRST = "as wanted", "out of memory behind whole a
 
 
 def ask(program, case, library=None, counts_file=None, seconds=SECONDS, **refusal):
-    """A run of a case of so many seconds at most, with what a library refuses where one is given."""
+    """Runs a case, for at most so many seconds. If a library is given, it is preloaded and makes the allocations or
+    reads fail."""
     folder, words, lines = case
     environment = dict(os.environ)
     if library:
@@ -47,12 +53,12 @@ def ask(program, case, library=None, counts_file=None, seconds=SECONDS, **refusa
 
 
 def is_begin_of_answers(text, whole):
-    """Whether a text is that of the first answers of a whole one, each of which ends with an empty line."""
+    """Returns whether a text is the first answers of a whole text. Each answer ends with an empty line."""
     return whole.startswith(text) and (not text or text.endswith(b"\n\n"))
 
 
 def outcome(wanted, run):
-    """What a run under a refusal came to, or None where it may not end so."""
+    """Returns the kind of end of a run with failing allocations, or None if it must not end so."""
     if run == wanted:
         return AS_WANTED
     told = run.stderr.removesuffix(MEMORY)
@@ -64,7 +70,7 @@ def outcome(wanted, run):
 
 
 def trial(program, case, wanted, library, folder, mode, number):
-    """The outcome of a run with a growth refused, and the run."""
+    """Returns the outcome of a run with a failing allocation, and the run."""
     counts_file = folder / f"{mode}-{number}"
     try:
         run = ask(program, case, library, counts_file, **{mode: number})
@@ -75,7 +81,7 @@ def trial(program, case, wanted, library, folder, mode, number):
 
 
 def over_case(program, case, library, folder):
-    """Tries all growths of a case, and gives the outcomes with their counts."""
+    """Tries all allocations of a case. Returns the number of each outcome."""
     wanted = ask(program, case)
     counts_file = folder / "counts"
     if ask(program, case, library, counts_file) != wanted or wanted.status:
@@ -96,8 +102,8 @@ def over_case(program, case, library, folder):
 
 
 def sweep(program, cases, make_library, over_case, names):
-    """Goes over these cases with a library that refuses, and prints how many runs came to each outcome of these names.
-    Answers the exit status."""
+    """Tries these cases with a library that makes calls fail, and prints the number of each outcome. Returns the exit
+    status."""
     seen = Counter()
     with tempfile.TemporaryDirectory() as folder:
         folder = pathlib.Path(folder)

@@ -1,13 +1,19 @@
 #!/usr/bin/env python3
-"""Runs the built pdb_symbolizer over small PDB files with each of its reads refused or ended early, and with short reads,
-and reports every run that ends otherwise than it may.
+"""Runs the built pdb_symbolizer over small PDB files with each of its reads failing or ended early in turn, and with
+short reads, and reports every run that ends in a way it must not.
 
 Usage: refused_reads.py PROGRAM
 
-The Nth read of a file fails, or finds its end; N goes over all reads of a run. A run may end as wanted, where what was
-refused wasn't needed; or with the status 2 and `cannot read FILE` as the last line on standard error, with the reason
-where the file is opened, behind whole answers of the first addresses. A file that ends early may also be refused as cut short. Where each read gives few bytes,
-a run has to end as wanted. Behind each case the same questions are asked again.
+The Nth read of a file fails, or returns the end of the file. N goes over all reads of a run. The run may end in these
+ways:
+
+- as expected, if the read wasn't needed
+- with status 2, after whole answers of the first addresses, and with `cannot read FILE` as the last line on standard
+  error. If the file was being opened, the line also has the reason
+- with status 2 and a line that says that the file is cut short, if the read returned the end of the file
+
+In other runs each read returns few bytes. Such a run must end as expected. After each case the same lookups must still
+give the expected answers.
 """
 import pathlib
 import subprocess
@@ -17,25 +23,25 @@ from collections import Counter
 from refused_pdb_growths import CASES, ask, is_begin_of_answers, sweep
 
 HERE = pathlib.Path(__file__).resolve().parent
-# How many bytes each read gives at most, in runs whose reads are short.
+# The most bytes that each read returns, for the runs with short reads.
 SHORT = (1, 7, 512, 4097)
-# How many seconds a run may take whose reads are short.
+# The time limit of a run, in seconds. Short reads are slow.
 MINUTE = 60
 AS_WANTED, AS_SHORT, REFUSED = "as wanted", "as wanted by short reads", "refused behind whole answers"
-# What stands behind the refusal where the file is opened
+# What follows `cannot read FILE` if the file was being opened.
 REASONS = (b": Input/output error (os error 5)\n", b": failed to fill whole buffer\n")
 CUT_SHORT = b": the file is cut short before the end of its directory\n"
 
 
 def compiled(folder):
-    """The library of reads that are refused."""
+    """Compiles the library that makes reads fail."""
     library = folder / "refusing_reader.so"
     subprocess.run(["cc", "-O1", "-shared", "-fPIC", "-o", library, HERE / "refusing_reader.c"], check=True)
     return library
 
 
 def is_refusal(case, mode, run, wanted):
-    """Whether a run was refused for a read, behind whole answers."""
+    """Returns whether a run ended because of a failed read, after whole answers."""
     last = run.stderr.splitlines(keepends=True)[-1:]
     refusal = f"pdb_symbolizer: cannot read {file_of(case)}\n".encode()
     refusals = (refusal, *(refusal[:-1] + reason for reason in REASONS))
@@ -44,17 +50,18 @@ def is_refusal(case, mode, run, wanted):
 
 
 def file_of(case):
-    """The PDB file that the words of a case name, or `None`. Where lines name it, it may be one that can't be opened."""
+    """Returns the PDB file that the arguments of a case name, or None. Files that input lines name aren't returned:
+    another file than the broken one may be reported then."""
     return next((word for word in case[1] if word.endswith(".pdb")), None)
 
 
 def shows_sources(case):
-    """Whether lines of source files are wanted, which are left out where they can't be read."""
+    """Returns whether a case prints lines of source files. These are left out if they can't be read."""
     return any(word.startswith("--print-source-context-lines") for word in case[1])
 
 
 def over_case(program, case, library, folder):
-    """Tries all reads of a case, and gives the outcomes with their counts."""
+    """Tries all reads of a case. Returns the number of each outcome."""
     wanted = ask(program, case)
     counts_file = folder / "counts"
     if ask(program, case, library, counts_file, MINUTE) != wanted or wanted.status:

@@ -1,14 +1,16 @@
 #!/usr/bin/env python3
-"""Writes reports into memory that grows, with each growth refused, and reports every run that ends otherwise than it may.
+"""Writes reports into a vector in memory with each memory allocation failing in turn, and reports every run that ends
+in a way it must not.
 
 Usage: report_into_memory.py [PROGRAM]
 
-The program writes through a buffer that it makes at its start, so none of its growths is one of the writer's. Here a
-small program with a vector for its writer is made in a copy of the repository, proved and built by `rt run`, and run
-over some cases of refused_growths.py with each of their growths refused; PROGRAM is one that was built before. Where
-the vector's own growth is refused, the report has to end with `cannot write`, which must be seen; else it ends as the
-program may. What the vector held then is printed: whole texts of the first addresses, or behind `cannot write` any
-beginning of the whole text.
+pdb_report allocates its output buffer at the start, so no later allocation is the writer's. This script makes a small
+program that writes into a vector, in a copy of the repository. `rt run` proves and builds it. It runs over some cases
+of refused_growths.py with each allocation failing. PROGRAM is such a program that was built before.
+
+If an allocation of the vector fails, the report must end with `cannot write`. At least one run must end so. All other
+runs end as pdb_report may. The program prints what the vector holds: whole texts of the first addresses, or, after
+`cannot write`, any beginning of the whole text.
 """
 import pathlib
 import shutil
@@ -67,7 +69,7 @@ fn main(rt: HostRuntime) -> ExitCode {
 
 
 def built(folder):
-    """The program, proved and built in a copy of the repository."""
+    """Proves and builds the program in a copy of the repository."""
     copy = folder / "copy"
     shutil.copytree(ROOT, copy, ignore=shutil.ignore_patterns("out", ".git"))
     with open(copy / "crates.txt", "a", encoding="utf-8") as crates:
@@ -83,7 +85,7 @@ def built(folder):
 
 
 def into_memory(case, run):
-    """What a run came to, or None where it may not end so."""
+    """Returns the kind of end of a run, or None if it must not end so."""
     if run.status == 2 and run.stderr == CANNOT_WRITE:
         return IN_THE_WRITER if case.stdout.startswith(run.stdout) else None
     if run == Run(3, b"", b""):

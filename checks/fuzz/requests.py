@@ -1,17 +1,22 @@
 #!/usr/bin/env python3
-"""Hands mutated requests of the symbolication API to the built pdb_symbolizer, and reports every answer that is wrong.
+"""Passes mutated requests of the symbolication API to the built pdb_symbolizer, and reports every answer that is wrong.
 
 Usage: requests.py PROGRAM COUNT [SEED] [PDB]
 
-With no PDB file the one of crates/pdb_symbolizer/data is taken. It lies in a folder under two debug ids, and beside
-that folder too, where no request may lead. Of COUNT requests some are well-formed and the others have values exchanged,
-added or left out, or bytes changed. They go to `--symbolicate-lines` in batches, and the first of each batch to
-`--symbolicate`.
+PDB is shapes.pdb of crates/pdb_symbolizer/data if not given. The folder of `--pdb-dir` has it under two debug ids. A
+third copy is outside that folder, where no request may lead. Some of the COUNT requests are well-formed. The others
+have values exchanged, added or left out, or bytes changed. They go to `--symbolicate-lines` in batches, and the first
+of each batch also to `--symbolicate`.
 
-What is wanted of each is worked out here by a second reading of docs/FORMATS.md: the line of its fault, or an answer
-whose frames are those that PROGRAM prints for the file in JSON at the same addresses. A run misbehaves where it ends by
-a signal, with another status than 0 or 2, with another answer, or after two minutes; and, where strace is at hand,
-where it opens a file outside of the folder that a run with no request doesn't open.
+For each request the script works out the expected line from docs/FORMATS.md. It is the line of a fault, or an answer.
+The frames of the answer are those that PROGRAM prints in JSON for the file at the same addresses. A run misbehaves in
+these cases:
+
+  - It ends by a signal, or its status is not 0 or 2.
+  - An answer is wrong.
+  - It takes more than two minutes.
+  - It opens a file outside of the folder that a run without requests doesn't open. This is only checked if strace is
+    installed.
 """
 import json
 import pathlib
@@ -33,29 +38,29 @@ MEMBERS = ["jobs", "memoryMap", "stacks", "version", "more"]
 
 
 class Fault(Exception):
-    """Why a text is no request."""
+    """The reason why a text is not a valid request."""
 
 
 def no_constant(text):
-    """JSON has no NaN and no infinity."""
+    """Refuses NaN and infinities, which JSON doesn't have."""
     raise Fault("not a JSON text")
 
 
 def finite(text):
-    """A number that a double has room for."""
+    """Parses a number, and refuses it if it is too large for a double."""
     if float(text) in (float("inf"), float("-inf")):
         raise Fault("not a JSON text")
     return float(text)
 
 
 def nesting(value):
-    """How deep values nest."""
+    """Returns how deep a value nests. A number or a string has depth 0."""
     inner = value.values() if isinstance(value, dict) else value if isinstance(value, list) else ()
     return max(map(nesting, inner), default=0) + isinstance(value, (dict, list))
 
 
 def json_of(data):
-    """The value of a JSON text."""
+    """Parses a JSON text."""
     try:
         value = json.loads(data.decode("utf-8"), parse_constant=no_constant, parse_float=finite,
                            parse_int=lambda text: -0.0 if text == "-0" else int(text))
@@ -68,14 +73,14 @@ def json_of(data):
 
 
 def wanted(value, sort, word, path):
-    """A value, which has to be of a sort."""
+    """Returns the value if it has this type."""
     if not isinstance(value, sort) or isinstance(value, bool):
         raise Fault(f"{path}: wanted {word}")
     return value
 
 
 def number(value, least, most, path):
-    """A whole number in a range."""
+    """Returns the value if it is a whole number in this range."""
     wanted(value, (int, float), "number", path)
     if isinstance(value, float) or not least <= value <= most:
         raise Fault(f"{path}: number out of range")
@@ -83,19 +88,19 @@ def number(value, least, most, path):
 
 
 def elements(value, path):
-    """The elements of an array with their paths."""
+    """Returns the elements of an array with their paths."""
     return [(f"{path}/{index}", element) for index, element in enumerate(wanted(value, list, "array", path))]
 
 
 def pair(value, words, path):
-    """The elements of an array of two."""
+    """Returns the two elements of an array of two."""
     if len(wanted(value, list, "array", path)) != 2:
         raise Fault(f"{path}: wanted {words}")
     return value
 
 
 def frame_of(value, count, path):
-    """A frame over so many modules."""
+    """Reads a frame: the index of one of `count` modules or -1, and an offset."""
     module, offset = pair(value, "index of a module and offset", path)
     if not -1 <= number(module, -2**63, 2**63 - 1, f"{path}/0") < count:
         raise Fault(f"{path}/0: wanted index of memoryMap, or -1")
@@ -103,7 +108,7 @@ def frame_of(value, count, path):
 
 
 def job_of(value, path):
-    """The modules and the stacks of a job."""
+    """Reads a job: its modules and its stacks."""
     job = wanted(value, dict, "object", path)
     modules, stacks = [], []
     for at, entry in elements(job.get("memoryMap"), f"{path}/memoryMap"):
@@ -115,7 +120,7 @@ def job_of(value, path):
 
 
 def jobs_of(data):
-    """The jobs of a request."""
+    """Reads the jobs of a request."""
     request = wanted(json_of(data), dict, "object", "")
     if "jobs" not in request and ("memoryMap" in request or "stacks" in request):
         return [job_of(request, "")]
@@ -123,7 +128,7 @@ def jobs_of(data):
 
 
 def debug_id(text):
-    """The digits of a debug id in either form, and its age, or None."""
+    """Reads a debug id in either form. Returns the digits of the GUID and the age, or None."""
     guid, slash, age = text.partition("/")
     if not slash:
         guid, age = text[:32], text[32:]
@@ -136,7 +141,7 @@ def debug_id(text):
 
 
 class Store:
-    """A folder with a PDB file under two ids, what is wanted at its addresses, and how the program is asked."""
+    """A folder with a PDB file under two debug ids, and the expected frames at its addresses."""
 
     def __init__(self, program, folder, pdb):
         self.program, self.folder, self.name = program, folder / "symbols", pdb.name
@@ -157,24 +162,24 @@ class Store:
         self.usual = set(self.run("--symbolicate-lines", b"")[1])
 
     def has(self, name, text):
-        """Whether there is a file of this name, in letters of either case, and of this debug id."""
+        """Returns whether there is a file with this name, in upper or lower case, and this debug id."""
         return (name.lower(), debug_id(text)) in self.files
 
     def outer(self, folder):
-        """Where the PDB file lies in a folder."""
+        """Makes a folder, and returns the path of the PDB file in it."""
         folder.mkdir(exist_ok=True)
         return folder / self.name
 
     def shown(self, file):
-        """The debug id of a file."""
+        """Returns the debug id of a file."""
         return self.printed("--show-id", file).split()[1]
 
     def printed(self, *words, text=None):
-        """What the program prints."""
+        """Returns the program's standard output."""
         return subprocess.run([self.program, *words], input=text, capture_output=True, text=True, check=True).stdout
 
     def learn(self, offsets):
-        """Asks the program for addresses of the file."""
+        """Looks up addresses of the file that are not known yet."""
         offsets = sorted(offset for offset in offsets if offset not in self.known and offset < 2**32)
         if not offsets:
             return
@@ -185,7 +190,8 @@ class Store:
             self.known[offset] = [(frame["FunctionName"], frame["FileName"], frame["Line"]) for frame in frames]
 
     def run(self, word, data):
-        """What the program writes of a text, its status, and which other files it opened outside of the folder."""
+        """Runs the program over an input. Returns the run, and the files that it opened outside of the folder and that
+        a run without requests doesn't open."""
         with tempfile.NamedTemporaryFile() as log:
             trace = [self.strace, "-f", "-e", "trace=open,openat,openat2,creat", "-o", log.name] if self.strace else []
             words = [*trace, self.program, word, "--pdb-dir", self.folder]
@@ -196,7 +202,7 @@ class Store:
 
 
 def is_right(store, found, module, offset, frame):
-    """Whether a frame of an answer is what is known at an offset."""
+    """Returns whether a frame of an answer is the expected one at an offset."""
     answered = store.known.get(offset, [("", "", 0)]) if found else [("", "", 0)]
     places = [*frame.pop("inlines", []), frame]
     shown = [(place.get("function", ""), place.get("file", ""), place.get("line", 0)) for place in places]
@@ -205,7 +211,7 @@ def is_right(store, found, module, offset, frame):
 
 
 def answer_is_right(store, jobs, line):
-    """Whether a line is the answer to a request."""
+    """Returns whether a line is the answer to a request."""
     results = json.loads(line)["results"]
     right = len(results) == len(jobs)
     for (modules, stacks), result in zip(jobs, results):
@@ -226,7 +232,7 @@ def answer_is_right(store, jobs, line):
 
 
 def a_job(store, chance):
-    """A job that is well-formed."""
+    """Returns a random well-formed job."""
     names = [store.name] * 6 + ["stored.pdb"] * 3 + [store.name.upper(), "Stored.PDB"] + [
         "", ".", "..", "../" + store.name, "./" + store.name, "x\\" + store.name, "C:" + store.name, store.name + "\0",
         "/etc/passwd", "no.pdb", 'q"\n\x7f\u00e9', "stored.pdb/" + store.other]
@@ -241,13 +247,13 @@ def a_job(store, chance):
 
 
 def a_value(chance):
-    """Any value."""
+    """Returns a random value."""
     return chance.choice([None, True, 0, -1, -2, 1.5, 2**63, 2**64, "", "jobs", [], {}, [[]], [0, 1], {"jobs": []},
                           [[[0, 4096]]], ["a.pdb", "b"]])
 
 
 def changed(value, chance):
-    """A value, somewhere in which another stands, or an element more or less."""
+    """Changes a value at a random place: replaces, removes or adds an element."""
     if isinstance(value, (dict, list)) and value and chance.random() < 0.85:
         key = chance.choice(list(value) if isinstance(value, dict) else range(len(value)))
         deed = chance.random()
@@ -264,7 +270,7 @@ def changed(value, chance):
 
 
 def a_request(store, chance):
-    """The bytes of a request, on one line."""
+    """Returns the bytes of a random request, on one line."""
     jobs = [a_job(store, chance) for _ in range(chance.choice([0, 1, 1, 2, 3]))]
     value = a_job(store, chance) if chance.random() < 0.3 else {"jobs": jobs}
     kind = chance.random()
@@ -280,7 +286,7 @@ def a_request(store, chance):
 
 
 def right_line(store, data, line):
-    """Whether a line answers a text, and whether the text is a request."""
+    """Returns whether a line answers a text, and whether the text is a request."""
     try:
         jobs = jobs_of(data)
     except Fault as fault:
@@ -290,7 +296,7 @@ def right_line(store, data, line):
 
 
 def batch_faults(store, requests):
-    """What is wrong with the runs over these requests, and how many of them are requests."""
+    """Returns what is wrong with the runs over these texts, and how many of the texts are requests."""
     run, outside = store.run("--symbolicate-lines", b"".join(data + b"\n" for data in requests))
     lines = run.stdout.split(b"\n")[:-1]
     faults = [f"opened {path}" for path in outside]

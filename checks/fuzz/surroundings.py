@@ -1,11 +1,17 @@
 #!/usr/bin/env python3
-"""Runs the built program where what surrounds it is broken, and reports every run that ends otherwise than docs/REPORT.md says.
+"""Runs the built program in a broken environment, and reports every run that ends otherwise than docs/REPORT.md says.
 
 Usage: surroundings.py PROGRAM
 
-That is: a standard output that is closed, full, or read by nobody; a records file that is a folder, empty, can't be
-read, or comes in pieces; words that aren't UTF-8; texts that are cut off anywhere or nested too deep; and module files
-of all these kinds. Standard error, the status and, where it can be read, standard output are compared.
+These are broken:
+
+  - standard output: it is closed, or full, or nobody reads it
+  - the records file: it is a folder, or empty, or can't be read, or comes in pieces
+  - arguments: they are not UTF-8
+  - texts: they are cut anywhere, or nested too deep
+  - module files: all of these
+
+The script compares standard error, the status, and, if it can be read, standard output.
 """
 import os
 import pathlib
@@ -23,12 +29,12 @@ SECONDS = 10
 USAGE = "usage: pdb_report RECORDS (frames|names ADDRESS...|list)"
 NO_JSON = "not a JSON text"
 DEEPEST = 127
-# A file whose bytes can't be read, though it can be opened.
+# A file that can be opened, but whose bytes can't be read.
 UNREADABLE = "/proc/self/mem"
 LINE = b"0x1020 - ?f 0x1010..0x1100\n"
 MODULE_LINE = b"0x1050 - g 0x1050..0x1090\n"
 
-# `out` is what stands for standard output, None where it is read.
+# `out` makes the standard output of the run. If it is None, standard output is captured.
 Check = namedtuple("Check", "what words line status stdout out", defaults=(b"", None))
 
 
@@ -46,24 +52,24 @@ def records(what, name, fault):
 
 
 def closed():
-    """Nothing stands for standard output."""
+    """It is closed."""
     return "closed"
 
 
 def full():
-    """A device that is full."""
+    """The device is full."""
     return os.open("/dev/full", os.O_WRONLY)
 
 
 def unread():
-    """A pipe that nobody reads."""
+    """Nobody reads the pipe."""
     reading, writing = os.pipe()
     os.close(reading)
     return writing
 
 
 def outputs():
-    """Lines that can't be written, few and many, and behind an error too; and nothing to be written."""
+    """Checks of lines that can't be written: few, many, and before an error. In others there is nothing to write."""
     for out in (closed, full, unread):
         what = f"standard output: {out.__doc__}"
         for words in ([EXAMPLE, "names", "1020"], [EXAMPLE, "frames", "1020", "1050"], [EXAMPLE, "list"],
@@ -77,11 +83,11 @@ def outputs():
         yield refused(f"{what} Usage.", [], USAGE, out)
 
 
-# ------------------------------------------------------------ the words
+# ---------------------------------------------------------- the arguments
 
 
 def words():
-    """Words that ask for nothing known."""
+    """Checks of invalid arguments."""
     name = bytes(EXAMPLE)
     wrong = [[], [name], [name, b"name"], [name, b"names", b"g"], [name, b"list", b"1020"], [name, b"names", b""],
              [b"\xff", b"names", b"1020"], [name, b"\xff", b"1020"], [name, b"names", b"\xff"],
@@ -95,7 +101,7 @@ def words():
 
 
 def unreadable_files(folder):
-    """Paths that can't be read."""
+    """Checks of paths that can't be read."""
     (folder / "folder").mkdir()
     (folder / "circle").symlink_to("circle")
     (folder / "dangling").symlink_to("absent")
@@ -112,17 +118,17 @@ def unreadable_files(folder):
 
 
 def beginnings(text):
-    """The proper beginnings of a text up to its last brace, the empty one too."""
+    """Returns all beginnings of a text that end before its last brace, with the empty one."""
     return [text[:length] for length in range(text.rindex(b"}") + 1)]
 
 
 def nested(depth):
-    """So many arrays, each in the one before."""
+    """Returns an array nested to this depth."""
     return b"[" * depth + b"]" * depth
 
 
 def files(folder):
-    """Records files that hold no records."""
+    """Checks of records files that hold no records."""
     yield from unreadable_files(folder)
     for text in beginnings(EXAMPLE.read_bytes()) + [EXAMPLE.read_bytes() + b"}", b"\xff", b"\xef\xbb\xbf{}", b"\0"]:
         name = written(folder, text)
@@ -138,12 +144,12 @@ def files(folder):
 
 
 def deep_member(depth):
-    """The example with one more member, of so many nested arrays."""
+    """Returns the example with one more member, which is an array nested to this depth."""
     return EXAMPLE.read_bytes().replace(b"{", b'{"more":' + nested(depth) + b",", 1)
 
 
 def written(folder, text, name=None):
-    """The name of a file with this text, in this folder."""
+    """Writes a file with this text into the folder, and returns its name."""
     name = name or f"{sum(1 for _ in folder.iterdir())}.json"
     (folder / name).write_bytes(text)
     return name
@@ -153,14 +159,15 @@ def written(folder, text, name=None):
 
 
 def module_files(folder):
-    """Module files that can't be read or hold no records of a module."""
+    """Checks of module files that can't be read or hold no records of a module."""
     text = (DATA / "modules" / "two.json").read_bytes()
     first, second = ((DATA / "modules" / name).read_bytes() for name in ("a.module.json", "b.module.json"))
     written(folder, first, "a.module.json")
     number = 0
 
     def two(second):
-        """The name of a records file whose second module file has this text."""
+        """Writes a records file whose second module file has this text. Returns the names of both. None writes no
+        module file."""
         nonlocal number
         number += 1
         name = f"{number}.module.json"
@@ -202,7 +209,7 @@ def feed(path, pieces):
 
 
 def in_pieces(folder):
-    """Checks of a records file that comes in pieces, with the pieces and the path."""
+    """Checks of a records file that comes in pieces. Each has the path of the pipe, and the pieces."""
     text = EXAMPLE.read_bytes()
     half = len(text) // 2
     pipe = folder / "pipe"
@@ -216,7 +223,7 @@ def in_pieces(folder):
 
 
 def output(check):
-    """What stands for standard output, and what a new process does about it."""
+    """Returns the descriptor for standard output, and what the new process does first."""
     made = check.out() if check.out else None
     if made == "closed":
         return None, lambda: os.close(1)
@@ -224,7 +231,7 @@ def output(check):
 
 
 def fault(program, check, folder):
-    """What is wrong with a run, if anything is."""
+    """Returns what is wrong with a run, or None."""
     out, begin = output(check)
     try:
         done = subprocess.run([program, *check.words], cwd=folder, stdin=subprocess.DEVNULL, stderr=subprocess.PIPE,
@@ -241,7 +248,7 @@ def fault(program, check, folder):
 
 
 def all_checks(folder):
-    """All checks, each with the pieces that are fed to a pipe meanwhile, if there are any."""
+    """Yields all checks. Each has the pipe and the pieces to write to it during the run, or None."""
     for make in (outputs, words):
         for check in make():
             yield check, None
@@ -253,7 +260,7 @@ def all_checks(folder):
 
 
 def shown(words):
-    """Words as they are printed: a few, cut short."""
+    """Shortens the arguments for a message."""
     return " ".join(str(word)[:60] for word in words[:6])
 
 

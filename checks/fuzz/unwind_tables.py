@@ -1,14 +1,17 @@
 #!/usr/bin/env python3
-"""Runs the built pdb_symbolizer on programs whose unwind tables, code or headers are broken, and compares the unwind records.
+"""Runs the built pdb_symbolizer on programs whose unwind tables, code or headers are broken, and compares the unwind
+records.
 
 Usage: unwind_tables.py PROGRAM COUNT [SEED] [EXE..]
 
-Each EXE is a program for x64 or ARM64 with its PDB file beside it, under the same name; without one, shapes.exe of
-crates/pdb_symbolizer/data is taken. A copy has some bytes of its sections `.pdata`, `.rdata`, `.xdata` and `.text`, or of
-its headers, flipped, exchanged or made huge. `pdb_symbolizer --dump-syms` then has to end with status 0, 1 or 2 within ten
-seconds. If the status is 0, its STACK CFI records must be those of stack_records.py, the second implementation in
-crates/pdb_symbolizer_tests/data, and there must be a line on standard error for each entry that this leaves out. There is
-no second implementation for ARM64, so records of such a program aren't compared.
+Each EXE is a program for x64 or ARM64. Its PDB file has the same name and is in the same folder. Without an EXE,
+shapes.exe of crates/pdb_symbolizer/data is used. A copy has some bytes of its sections `.pdata`, `.rdata`, `.xdata` and
+`.text`, or of its headers, flipped, exchanged or made huge.
+
+`pdb_symbolizer --dump-syms` must then end with status 0, 1 or 2 within ten seconds. If the status is 0, its STACK CFI
+records must be those of stack_records.py, the second implementation in crates/pdb_symbolizer_tests/data. For each entry
+that stack_records.py leaves out, there must be a line on standard error. There is no second implementation for ARM64,
+so records of such a program aren't compared.
 """
 import pathlib
 import random
@@ -27,7 +30,7 @@ WEIGHTS = {".pdata": 8, ".rdata": 7, ".xdata": 7, ".text": 3}
 
 
 def ranges_of(program):
-    """The headers and the sections that matter, each as often as it is to be drawn."""
+    """Returns the ranges of the headers and the sections that matter. Each is in the list as often as its weight."""
     start = struct.unpack_from("<I", program, 60)[0]
     count, size = struct.unpack_from("<H12xH", program, start + 6)
     found = [(start, start + 24 + size + 40 * count)] * 2
@@ -40,7 +43,7 @@ def ranges_of(program):
 
 
 def mutated(program, draw):
-    """The program with a few changes."""
+    """Applies a few changes."""
     ranges, program = ranges_of(program), bytearray(program)
     for _ in range(draw.randrange(1, 7)):
         low, high = draw.choice(ranges)
@@ -58,7 +61,7 @@ def mutated(program, draw):
 
 
 def expected(copy):
-    """The records of a copy and the entries that are left out; none where its headers can't be read."""
+    """Returns the records of a copy, and the entries that are left out. Both are empty if its headers can't be read."""
     try:
         return stack_records(copy)
     except (ValueError, struct.error):
@@ -66,12 +69,12 @@ def expected(copy):
 
 
 def is_arm64(copy):
-    """Whether a copy is for ARM64."""
+    """Returns whether a copy is for ARM64."""
     return copy.find(b"PE\0\0\x64\xaa") >= 0
 
 
 def outcome(program, path, copy):
-    """The status of a run on a copy, and what is wrong with it, if anything is."""
+    """Returns the status of a run on a copy, and what is wrong with the run, or None."""
     path.write_bytes(copy)
     try:
         run = subprocess.run([program, "--dump-syms", path], capture_output=True, timeout=10)

@@ -1,14 +1,19 @@
 #!/usr/bin/env python3
-"""Compares the symbol file that the built pdb_symbolizer writes of a file with what it answers there, address by address.
+"""Compares the symbol file that the built pdb_symbolizer writes with its answers, address by address.
 
 Usage: breakpad.py PROGRAM FILE [ADDRESS..]
 
-FILE is a program with its PDB file, or a PDB file. `--dump-syms` is read by a plain reader of Breakpad's format, and each
-address of each FUNC record is looked up in it by a scan: the function, its file and line, and the functions that are
-inlined there with theirs. PROGRAM is asked for the same addresses at once, and for each ADDRESS, which may lie in no
-function, and so a PUBLIC record at or before it may name it. Each difference is printed, up to twenty, and how many
-there are. Looked for too are records that the format doesn't allow: numbers that no record has, lines and inlined calls
-outside of their function, bytes with two lines or functions, an inlined call with none around it at the level above.
+FILE is a program with its PDB file, or a PDB file. A plain reader of Breakpad's format reads the output of
+`--dump-syms`. It looks up each address of each FUNC record by a scan: the function with its file and line, and the
+functions inlined there. PROGRAM answers the same addresses in one run. An ADDRESS may be outside all functions. Then
+the last PUBLIC record at or before it may name it.
+
+The script prints up to twenty differences, and their number. It also reports records that the format doesn't allow:
+
+  - numbers that no record defines
+  - lines and inlined calls outside of their function
+  - bytes with two lines or two functions
+  - an inlined call without one around it at the level above
 """
 import bisect
 import json
@@ -33,25 +38,26 @@ SHOWN = 20
 
 
 class Function:
-    """A FUNC record with the records behind it."""
+    """A FUNC record with the line and INLINE records after it."""
 
     def __init__(self, start, size, name):
         self.start, self.size, self.name = start, size, name
         self.lines, self.inlines = [], []
 
     def holds(self, start, size):
-        """Whether these addresses lie in the function."""
+        """Returns whether this range is inside the function."""
         return size > 0 and self.start <= start and start + size <= self.start + self.size
 
     def place(self, address):
-        """File and line of an address."""
+        """Returns the file and the line of an address, or None."""
         for start, size, line, file in self.lines:
             if start <= address < start + size:
                 return file, line
         return None
 
     def calls(self, address):
-        """The inlined calls over an address by their levels: where the call stands, and which function it is of."""
+        """Returns the inlined calls over an address, by level: the file and the line of the call, and the inlined
+        function."""
         found = {}
         for level, line, file, origin, ranges in self.inlines:
             if any(start <= address < start + size for start, size in ranges):
@@ -59,7 +65,7 @@ class Function:
         return [found[level] for level in sorted(found)]
 
     def frames(self, address, files, origins):
-        """The functions at an address with file and line, the innermost first."""
+        """Returns the functions at an address with file and line, the innermost first."""
         frames, name = [], self.name
         for file, line, origin in self.calls(address):
             frames.append((name, files.get(file), line))
@@ -70,7 +76,7 @@ class Function:
 
 
 class SymbolFile:
-    """What a symbol file says."""
+    """The records of a symbol file, and what is wrong with them."""
 
     def __init__(self, text):
         self.files, self.origins, self.functions, self.publics, self.faults = {}, {}, [], [], []
@@ -107,7 +113,7 @@ class SymbolFile:
             self.line(line, found)
 
     def inline(self, line, found):
-        """Reads the record of an inlined call."""
+        """Reads an INLINE record."""
         level, call_line, file, origin = (int(found[at]) for at in range(1, 5))
         words = [int(word, 16) for word in found[5].split()]
         ranges = list(zip(words[::2], words[1::2]))
@@ -117,7 +123,7 @@ class SymbolFile:
         function.inlines.append((level, call_line, file, origin, ranges))
 
     def line(self, line, found):
-        """Reads the record of a line."""
+        """Reads a line record."""
         start, size, number, file = int(found[1], 16), int(found[2], 16), int(found[3]), int(found[4])
         function = self.functions[-1]
         if file not in self.files or not function.holds(start, size):
@@ -125,7 +131,7 @@ class SymbolFile:
         function.lines.append((start, size, number, file))
 
     def look(self):
-        """Looks for bytes with two functions or lines, and for inlined calls without one around them."""
+        """Finds bytes with two functions or two lines, and inlined calls without one around them."""
         spans = [[(function.start, function.size) for function in self.functions]]
         spans += [sorted((start, size) for start, size, *_ in function.lines) for function in self.functions]
         for span in spans:
@@ -137,7 +143,7 @@ class SymbolFile:
                         self.faults.append(f"no call around: {start:x} at level {level}")
 
     def frames(self, address):
-        """The functions at an address with file and line, the innermost first."""
+        """Returns the functions at an address with file and line, the innermost first."""
         at = bisect.bisect_right(self.starts, address) - 1
         function = self.functions[at] if at >= 0 else None
         if function and function.holds(address, 1):
@@ -149,12 +155,12 @@ class SymbolFile:
 
 
 def run(*words, text=None):
-    """What a program prints."""
+    """Returns the standard output of a program."""
     return subprocess.run(words, input=text, capture_output=True, text=True, check=True, errors="replace").stdout
 
 
 def answers(program, file, addresses):
-    """What the program answers at each address."""
+    """Yields each address with the frames that the program prints for it."""
     text = "".join(f"0x{address:x}\n" for address in addresses)
     printed = run(program, "--output-style=JSON", "--relative-address", file, text=text)
     for line in printed.splitlines():
@@ -164,7 +170,7 @@ def answers(program, file, addresses):
 
 
 def known(frames):
-    """Frames whose unknown names are empty, and whose line breaks are spaces."""
+    """Makes frames comparable: unknown names become empty, and line breaks become spaces."""
     return [tuple(UNKNOWN.get(word, re.sub("[\r\n]", " ", word)) if isinstance(word, str) else word for word in frame)
             for frame in frames]
 

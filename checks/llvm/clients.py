@@ -1,11 +1,12 @@
 #!/usr/bin/env python3
-"""Asks the built pdb_symbolizer as programs do that have it beside them and wait for each answer.
+"""Uses the built pdb_symbolizer as other programs do, which pass lines one by one and wait for each answer.
 
 Usage: clients.py PROGRAM EXE [ASAN_SYMBOLIZE]
 
-EXE is a program with its PDB file beside it. Lines go one by one to one run of PROGRAM, addresses and others between them, and
-the empty line behind each answer is waited for; llvm-symbolizer of LLVM 22 is asked the same, and what both answer has to be
-the same. Then LLVM's script asan_symbolize (`asan_symbolize-14`) has PROGRAM answer a stack, as it asks for one.
+EXE is a program with its PDB file in the same folder. Lines go one by one to one run of PROGRAM. Every second line has
+no address. After each line the script waits for the empty line that ends the answer. llvm-symbolizer of LLVM 22 gets
+the same lines, and its answers must be the same. Then LLVM's script asan_symbolize (`asan_symbolize-14`) uses PROGRAM
+to symbolize a stack.
 """
 import os
 import pathlib
@@ -20,7 +21,7 @@ STACK = re.compile(r"#(\d+) 0x[0-9a-f]+ in (.*) (\S+:\d+)")
 
 
 def lines_of(exe, base):
-    """Lines that ask, and lines that don't, between them."""
+    """Yields by turns lines with an address of the program, and lines that ask for nothing or are invalid."""
     addresses = [f"0x{base + 0x1000 + 7 * number:x}" for number in range(32)]
     wrong = ["zz", "", f"{exe} zz", "CODE", exe, f"{exe} 9x", f"DATA {exe} 0x10", f"FRAME {exe} 0x10", "FILE:", "\t", "-1", "'"]
     for position, address in enumerate(addresses):
@@ -29,14 +30,15 @@ def lines_of(exe, base):
 
 
 class Client:
-    """A run of a program, which is asked line by line."""
+    """A run of a program that gets its input line by line."""
 
     def __init__(self, words, folder):
         self.run = subprocess.Popen(words, stdin=subprocess.PIPE, stdout=subprocess.PIPE, stderr=subprocess.DEVNULL, cwd=folder)
         self.rest = b""
 
     def answer(self, line):
-        """The lines up to the empty one behind the answer. None comes where the program is silent."""
+        """Sends a line, and returns the lines up to the empty one. Returns None if the program ends or doesn't answer
+        in time."""
         self.run.stdin.write(line.encode() + b"\n")
         self.run.stdin.flush()
         while not (self.rest.startswith(b"\n") or b"\n\n" in self.rest):
@@ -50,13 +52,13 @@ class Client:
         return answer.decode()
 
     def end(self):
-        """The status of the run, which ends with its input."""
+        """Closes standard input, waits for the end, and returns the status."""
         self.run.stdin.close()
         return self.run.wait(SECONDS)
 
 
 def waiting(program, folder, exe, base):
-    """How many lines were answered, and how many otherwise than by LLVM."""
+    """Returns the number of lines whose answers differ from LLVM's or don't come."""
     words = ["--functions=short"]
     ours, theirs = (Client([each, *words], folder) for each in (program, LLVM))
     count = wrong = 0
@@ -73,7 +75,7 @@ def waiting(program, folder, exe, base):
 
 
 def sanitizer(script, program, folder, exe, base):
-    """Whether the script names each frame of a stack."""
+    """Returns whether the script fails to name a frame of the stack."""
     stack = "".join(f"    #{number} 0x{0x7ff600001000 + number:x}  ({folder}/{exe}+0x{base + address:x})\n"
                     for number, address in enumerate((0x1136, 0x1000, 0x1190)))
     done = subprocess.run([script, "-d"], input=stack, capture_output=True, text=True, cwd=folder, timeout=6 * SECONDS,

@@ -3,18 +3,20 @@
 
 Usage: compilers.py PROGRAM FOLDER [NAME..]
 
-It builds PROGRAMS in FOLDER, each with its PDB file: Rust's core and alloc, D without its runtime, and C++23 with link-time
-optimization. With NAMEs it builds only these. Both symbolizers are asked with `--functions=short` for each address of each
-section with code. Answers that differ are counted by the kinds of symbolizer.py and by these reasons:
+It builds PROGRAMS in FOLDER, each with its PDB file: Rust's core and alloc, D without its runtime, and C++23 with
+link-time optimization. If NAMEs are given, it builds only these. Both symbolizers run with `--functions=short` over
+each address of each section with code. Answers that differ are counted by the kinds of symbolizer.py and by these
+reasons:
 
 no procedure  LLVM answers nothing at an address in no procedure
-two rows      LLVM answers the first of two line rows at the address, and the last one after it
-two files     a subsection of lines has rows of several files, and LLVM doesn't answer the last row at or before the address
-first row     in the first row of an inline site, LLVM answers the line of the row after it
-empty name    an inlined function has an empty name, which is answered as `<name omitted>`
+two rows      LLVM answers the first of two line rows at the address, and the last one after it two files     a
+subsection of lines has rows of several files, and LLVM doesn't answer the last row at or before the address first row
+in the first row of an inline site, LLVM answers the line of the row after it empty name    an inlined function has an
+empty name, which is answered as `<name omitted>`
 
-A missing tool is named, with its Debian package, and its programs are left out. The status is 1 if answers differ for no
-such reason (the first three of each kind are printed), if a build fails, or if no program was compared.
+If a tool is missing, the script names it with its Debian package, and leaves out its programs. The exit status is 1 if
+answers differ for no such reason (the first three of each kind are printed), if a build fails, or if no program was
+compared.
 """
 import collections
 import itertools
@@ -44,27 +46,27 @@ LDC = {**LLVM, "ldc2": "ldc"}
 
 
 def link(out, name, objects, entry="start"):
-    """Links objects to a program without libraries, with its PDB file."""
+    """Links objects without libraries. Returns the program, which gets a PDB file."""
     run(["lld-link-22", f"/entry:{entry}", "/include:_fltused", "/subsystem:console", "/nodefaultlib", "/debug",
          f"/out:{out / name}.exe", f"/pdb:{out / name}.pdb", *objects])
     return out / f"{name}.exe"
 
 
 def by_rustc(out, level):
-    """A program with Rust's core and alloc."""
+    """Builds a program with Rust's core and alloc."""
     run(["sh", UNWIND / "build_rust.sh", out, level])
     return out / "collections.exe"
 
 
 def by_ldc(out, level):
-    """A program in D, without D's runtime."""
+    """Builds a program in D, without D's runtime."""
     made = out / "structures.obj"
     run(["ldc2", "-mtriple=x86_64-windows-msvc", "-betterC", "-g", f"-O{level}", "-c", HERE / "structures.d", f"-of={made}"])
     return link(out, "structures", [made])
 
 
 def by_clang(out, level, *sources, entry="start"):
-    """A program in C++23, made of all its sources at once."""
+    """Builds a program in C++23 from all its sources, with link-time optimization."""
     objects = []
     for source in sources:
         objects.append(out / f"{source.stem}.o")
@@ -85,7 +87,7 @@ PROGRAMS = {
 
 
 def run(words):
-    """Runs a compiler or the linker. What it prints is shown if it fails."""
+    """Runs a compiler, the linker or llvm-pdbutil. If it fails, its output is printed."""
     done = subprocess.run(words, capture_output=True, text=True, errors="replace")
     if done.returncode:
         sys.exit(f"{words[0]} {words[1]} failed:\n{done.stdout}{done.stderr}")
@@ -93,12 +95,12 @@ def run(words):
 
 
 def is_there(tool):
-    """Whether a program or a path with wildcards exists."""
+    """Returns whether a program is installed. A tool that starts with `/` is a path, which may have wildcards."""
     return any(pathlib.Path("/").glob(tool[1:])) if tool[0] == "/" else shutil.which(tool)
 
 
 def sections(exe):
-    """The address, relative to the image base, and the size of each section, and whether it has code."""
+    """Yields for each section its address relative to the image base, its size, and whether it has code."""
     data = exe.read_bytes()
     header = struct.unpack_from("<I", data, 0x3c)[0]
     count, optional = (struct.unpack_from("<H", data, header + at)[0] for at in (6, 20))
@@ -108,8 +110,9 @@ def sections(exe):
 
 
 def facts(exe, parts):
-    """By llvm-pdbutil: the addresses in procedures; those in the first row of an inline site, with the changes of the line after
-    it; and those in subsections of lines with several files, with the file and the line of their row."""
+    """Reads three things from llvm-pdbutil: the addresses in procedures; the addresses in the first row of an inline
+    site, with the changes of the line after it; and, for subsections of lines with several files, the file and line of
+    each address."""
     procedures, first, subsections, rows_of = set(), collections.defaultdict(set), collections.defaultdict(list), {}
     pdb = exe.with_suffix(".pdb")
     for section, offset, size, begin, end, change, following in SYMBOL.findall(run([PDBUTIL, "dump", "-symbols", pdb])):
@@ -135,9 +138,9 @@ def facts(exe, parts):
 
 
 def answers(program, exe, addresses):
-    """The kind of difference at each address, our frames, LLVM's, and LLVM's at the next address."""
+    """Yields for each address the kind of difference, our frames, LLVM's, and LLVM's at the next address."""
     for start in range(0, len(addresses), PART):
-        # The answer at the next address is needed, too.
+        # The part has one more address at its end, because the last answer needs LLVM's answer after it.
         part = symbolizer.Comparison(program, exe, [f"0x{address:x}" for address in addresses[start:start + PART + 1]])
         kinds, pairs = part.json(["--output-style=JSON", "--functions=short"])
         ours, theirs = ([answer["Symbol"] for answer in side] for side in zip(*pairs))
@@ -145,7 +148,7 @@ def answers(program, exe, addresses):
 
 
 def reason(address, known, ours, theirs, after):
-    """Why both answers differ, if it is known."""
+    """Returns why the answers at an address differ, or None if that isn't known."""
     procedures, first, rows = known
     changes = [there["Line"] - here["Line"] for here, there in zip(ours, theirs) if here != there]
     named = [frame | {"FunctionName": frame["FunctionName"].replace("<name omitted>", "")} for frame in ours]
@@ -161,7 +164,7 @@ def reason(address, known, ours, theirs, after):
 
 
 def compared(program, exe, name):
-    """Compares all answers over one program. Returns how many differ for no known reason."""
+    """Compares all answers over one program. Returns the number of differences without a known reason."""
     parts = list(sections(exe))
     addresses = [address for start, size, code in parts if code for address in range(start, start + size)]
     known, counts, unknown = facts(exe, parts), collections.Counter(same=0), collections.Counter()

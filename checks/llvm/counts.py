@@ -1,12 +1,16 @@
 #!/usr/bin/env python3
-"""Compares how much of each kind a records file has, and how much llvm-pdbutil shows of the PDB file it was made of.
+"""Compares the counts in a records file with those that llvm-pdbutil shows for its PDB file, kind by kind.
 
 Usage: counts.py PROGRAM PDB
 
-The built pdb_symbolizer exports the PDB file. A line is printed for each kind, with both counts; of what modules have
-the counts are compared module by module. A module without a stream counts as one without records: llvm-pdbutil 14
-shows for such a module the lines and the inlinees of the module in front of it once more. Of rows at one offset of a
-part one counts, as the reader has it, and of entries those that are a part's, and not a procedure's inside of one.
+The built pdb_symbolizer exports the PDB file. The script prints one line with both counts for each kind. Records of
+modules are compared module by module. Some counts need care:
+
+  - A module without a stream counts as one without records. For such a module llvm-pdbutil 14 repeats the lines and
+    inlinees of the module before it.
+  - If several rows of a subsection of lines have the same offset, one of them counts, as in the reader.
+  - A records file may have further entries, for procedures inside a subsection. Only entries at the start of a
+    subsection count.
 """
 import collections
 import itertools
@@ -37,18 +41,18 @@ TYPES = {
 IDS = {"Function": {"LF_FUNC_ID"}, "MemberFunction": {"LF_MFUNC_ID"}, "Other": {"LF_BUILDINFO", "LF_UDT_SRC_LINE"},
        "String": {"LF_STRING_ID"}, "StringList": {"LF_SUBSTR_LIST"}}
 LISTS = {"types": TYPES, "ids": IDS}
-# Below the first index of a record stand the types that the compiler brings, of which no record says anything
+# Lower indices are types built into the format, which no record describes.
 FIRST = 0x1000
 
 
 def dump(option, pdb):
-    """The lines of a dump."""
+    """Returns the lines that llvm-pdbutil prints."""
     done = subprocess.run(["llvm-pdbutil", "dump", option, pdb], capture_output=True, text=True, errors="replace")
     return done.stdout.splitlines()
 
 
 def by_module(option, pdb):
-    """The lines of a dump for each module."""
+    """Returns the lines of a dump by module."""
     lines = collections.defaultdict(list)
     module = None
     for line in dump(option, pdb):
@@ -61,23 +65,23 @@ def by_module(option, pdb):
 
 
 def symbol_counts(names):
-    """How many symbols there are of each kind that has content, and of all."""
+    """Counts the symbols of each kind that has content, and all symbols."""
     counts = {kind: sum(name in kinds for name in names) for kind, kinds in KINDS.items()}
     return counts | {"symbols": len(names)}
 
 
 def by_kind(name, count, counts):
-    """The counts of the kinds of a list, under its name, and of what is of no kind that is known."""
+    """Names the counts of the kinds of a list, and adds the number of records of no known kind."""
     return {f"{name}, {kind}": count for kind, count in (counts | {"unknown": count - sum(counts.values())}).items()}
 
 
 def shown_parts(lines):
-    """The parts of lines of a module, each of them shown once for each of its files."""
+    """Returns the subsections of lines of a module. llvm-pdbutil shows each of them once for each of its files."""
     return [part for part, _ in itertools.groupby(block.groups() for block in map(BLOCK.match, lines) if block)]
 
 
 def shown_lines(lines):
-    """The counts of parts of lines, and of their offsets with a row of a line."""
+    """Counts the subsections of lines, and their offsets that have a row with a line."""
     part, rows = None, set()
     for line in lines:
         block = BLOCK.match(line)
@@ -87,7 +91,8 @@ def shown_lines(lines):
 
 
 def shown(pdb):
-    """What llvm-pdbutil shows: counts of the file, and of each module that has a stream; and where parts start there."""
+    """Returns what llvm-pdbutil shows: the counts of the file, the counts of each module that has a stream, and where
+    the subsections of lines of each module start."""
     modules = by_module("--modules", pdb)
     globals_ = [found[1] for found in map(SYMBOL.match, dump("--gsi-records", pdb)) if found]
     whole = {"modules": len(modules), "global symbols": len(globals_),
@@ -113,17 +118,17 @@ def shown(pdb):
 
 
 def items(reading):
-    """The items of a reading, and nothing of a stream that failed."""
+    """Returns the items of a list in a records file. A stream that failed has none."""
     return reading if isinstance(reading, list) else reading.get("items", [])
 
 
 def kind_of(symbol):
-    """The kind of a symbol's content."""
+    """Returns the kind of a symbol's content, or None."""
     return symbol.get("data", {}).get("kind")
 
 
 def module_counts(info, starts):
-    """What a records file has of a module whose parts of lines have these starts."""
+    """Counts the records of a module. `starts` are the starts of its subsections of lines."""
     kinds = [kind_of(symbol) for symbol in items(info["symbols"])]
     entries = [entry for entry in info["line_program"].get("entries", [])
                if (entry["section"], entry["offset"]) in starts]
@@ -133,7 +138,7 @@ def module_counts(info, starts):
 
 
 def recorded(records, starts):
-    """What a records file has: counts of the file, and of each module that has records."""
+    """Returns what a records file has: the counts of the file, and the counts of each module that has records."""
     debug = records["debug_information"]
     symbols = items(records["global_symbols"])
     whole = {"modules": len(items(debug["modules"])), "global symbols": len(symbols),

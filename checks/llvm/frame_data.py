@@ -1,14 +1,14 @@
 #!/usr/bin/env python3
-"""Compares the STACK WIN records and the sizes of parameters that the built pdb_symbolizer writes of PDB files for x86 with
+"""Compares the STACK WIN records and the parameter sizes that the built pdb_symbolizer writes for x86 PDB files with
 what llvm-pdbutil shows.
 
 Usage: frame_data.py PROGRAM FILE..      needs llvm-pdbutil of LLVM 14 or later
 
-`llvm-pdbutil dump -fpo` shows the entries of frame data (`New FPO Data`) and of FPO data (`Old FPO Data`) of each FILE. Each
-has to have one record, in this order, with the same numbers and the same program, and there may be no others. It shows FPO
-data in units of four bytes, as the file has them, and records have bytes. The size of parameters in a FUNC or PUBLIC is
-that of the last frame data over its address, or else of the last FPO data, or else 0. Each difference is printed, and how
-many records were compared.
+`llvm-pdbutil dump -fpo` shows the entries of frame data (`New FPO Data`) and of FPO data (`Old FPO Data`) of each FILE.
+Each entry must have one record, in this order, with the same numbers and the same program. There may be no other
+records. FPO data is shown in units of four bytes, as in the file; records have bytes. The parameter size in a FUNC or
+PUBLIC record is that of the last entry of frame data over its address, or else of the last entry of FPO data, or else
+0. The script prints each difference, and how many records were compared.
 """
 import re
 import subprocess
@@ -20,14 +20,14 @@ KINDS = {"FPO": 0, "Trap": 1, "TSS": 2, "NonFPO": 3}
 
 
 def of_frame_data(match):
-    """The record of an entry of frame data."""
+    """Returns the record that is expected for an entry of frame data."""
     rva = int(match[1], 16)
     size, local_size, parameters, stack, prologue, saved = map(int, match.groups()[1:7])
     return f"STACK WIN 4 {rva:x} {size:x} {prologue:x} 0 {parameters:x} {saved:x} {local_size:x} {stack:x} 1 {match[8]}"
 
 
 def of_fpo(match):
-    """The record of an entry of FPO data."""
+    """Returns the record that is expected for an entry of FPO data."""
     rva = int(match[1], 16)
     size, local_size, parameters, prologue, saved = map(int, match.groups()[1:6])
     return (f"STACK WIN {KINDS[match[8]]} {rva:x} {size:x} {prologue:x} 0 {4 * parameters:x} {4 * saved:x} {4 * local_size:x}"
@@ -35,14 +35,14 @@ def of_fpo(match):
 
 
 def wanted(file):
-    """The records by what llvm-pdbutil shows."""
+    """Returns all expected records, from what llvm-pdbutil shows."""
     shown = subprocess.run(["llvm-pdbutil", "dump", "-fpo", file], capture_output=True, text=True, check=True).stdout
     old, new = shown.split("New FPO Data")
     return [*map(of_frame_data, FRAME_DATA.finditer(new)), *map(of_fpo, FPO.finditer(old))]
 
 
 def parameter_size(rows, address):
-    """The size of parameters at an address, by the records: 0 where none covers it."""
+    """Returns the parameter size at an address as the records say it, or 0 if no record covers the address."""
     over = [fields for fields in map(str.split, rows)
             if int(fields[3], 16) <= address < int(fields[3], 16) + int(fields[4], 16)]
     by_frame_data = [fields for fields in over if fields[2] == "4"]
@@ -50,7 +50,7 @@ def parameter_size(rows, address):
 
 
 def wrong_sizes(rows, dumped):
-    """The records of functions whose size of parameters is another than the entries say."""
+    """Yields the FUNC and PUBLIC records whose parameter size isn't the expected one."""
     for row in dumped:
         kind, address, *fields = row.split(" ", 4)
         if kind in ("FUNC", "PUBLIC") and fields[kind == "FUNC"] != parameter_size(rows, int(address, 16)):

@@ -1,12 +1,14 @@
 #!/usr/bin/env python3
-"""Has lldb read the symbol file that `pdb_symbolizer --dump-syms` writes, and compares what it says of addresses.
+"""Compares what lldb finds at addresses with a symbol file of `pdb_symbolizer --dump-syms` with the program's own
+answers.
 
 Usage: lldb.py PROGRAM EXE [COUNT [LLDB]]
 
-EXE is a program with its PDB file beside it. COUNT addresses (200) are taken, evenly, from those of all functions of the
-symbol file. `lldb` (lldb-22) loads the program and the symbol file (`target symbols add`), and `image lookup` is to name the
-function itself, and the file and line of the innermost frame, as the program answers them. lldb 22 takes inlined
-ranges as relative to their section, so it shows no inlined frames. Printed are the addresses that differ.
+EXE is a program with its PDB file in the same folder. The script takes COUNT addresses (200), evenly spread over all
+functions of the symbol file. LLDB (lldb-22) loads the program and the symbol file (`target symbols add`). `image
+lookup` must print the function itself, and the file and line of the innermost frame, as PROGRAM answers them. lldb 22
+takes inlined ranges as relative to their section, so it shows no inlined frames. The script prints the addresses that
+differ.
 """
 import json
 import pathlib
@@ -22,19 +24,19 @@ FUNC = re.compile(r"^FUNC (?:m )?([0-9a-f]+) ([0-9a-f]+) ", re.M)
 
 
 def run(*words, text=None):
-    """What a program prints."""
+    """Returns the standard output of a program."""
     return subprocess.run(words, input=text, capture_output=True, text=True, check=True, errors="replace").stdout
 
 
 def drawn(symbols, count):
-    """So many addresses of the functions, evenly."""
+    """Returns up to `count` addresses, evenly spread over the functions."""
     ranges = [(int(start, 16), int(size, 16)) for start, size in FUNC.findall(symbols)]
     addresses = [address for start, size in ranges for address in range(start, start + size)]
     return addresses[::max(1, len(addresses) // count)][:count]
 
 
 def image_base(exe):
-    """Where the program wants to be loaded."""
+    """Returns the image base in the program's header."""
     data = pathlib.Path(exe).read_bytes()
     front = int.from_bytes(data[60:64], "little") + 24
     wide = data[front:front + 2] == b"\x0b\x02"
@@ -42,7 +44,7 @@ def image_base(exe):
 
 
 def wanted(program, exe, addresses):
-    """The function at each address, and the file and line of its innermost frame, as the program answers."""
+    """Yields the program's answers: the function at each address, and the file and line of its innermost frame."""
     text = "".join(f"0x{address:x}\n" for address in addresses)
     for line in run(program, "--output-style=JSON", "--relative-address", exe, text=text).splitlines():
         frames = json.loads(line)["Symbol"]
@@ -50,7 +52,7 @@ def wanted(program, exe, addresses):
 
 
 def found(lldb, exe, symbols, addresses):
-    """The same as lldb says it."""
+    """Yields the same as lldb prints it."""
     base = image_base(exe)
     with tempfile.TemporaryDirectory(prefix="lldb-") as room:
         shutil.copy(exe, f"{room}/program.exe")

@@ -1,11 +1,11 @@
 #!/usr/bin/env python3
-"""Runs the built pdb_symbolizer over the programs that LLVM tests llvm-symbolizer with, and wants what
-microsoft_cases.txt beside this says.
+"""Runs the built pdb_symbolizer over the programs of LLVM's tests of llvm-symbolizer, and compares the output with
+microsoft_cases.txt in this folder.
 
 Usage: microsoft.py PROGRAM FOLDER
 
-FOLDER has test.exe, test-columns.exe and missing_pdb.exe of llvm/test/tools/llvm-symbolizer/pdb/Inputs in LLVM's sources,
-with the PDB files of the first two. A line is printed for each case that printed something else.
+FOLDER has test.exe, test-columns.exe and missing_pdb.exe of llvm/test/tools/llvm-symbolizer/pdb/Inputs in LLVM's
+sources, with the PDB files of the first two. The script prints each case whose output differs.
 """
 import pathlib
 import subprocess
@@ -15,7 +15,7 @@ CASES = pathlib.Path(__file__).resolve().with_name("microsoft_cases.txt")
 
 
 def cases():
-    """Each case: its words, the text of its standard input, and what it is to print."""
+    """Yields the arguments, the standard input and the expected output of each case."""
     for case in CASES.read_text(encoding="utf-8").split("\n$ ")[1:]:
         line, _, wanted = case.partition("\n")
         words, _, text = line.partition(" < ")
@@ -23,7 +23,7 @@ def cases():
 
 
 def printed(program, folder, words, text):
-    """What a run prints, with its status."""
+    """Returns the output of a run, with its status."""
     run = subprocess.run([program, *words], input=text, capture_output=True, text=True, cwd=folder)
     errors = [f"standard error: {line}" for line in run.stderr.splitlines()]
     return "\n".join([*errors, *run.stdout.splitlines(), f"status {run.returncode}"])

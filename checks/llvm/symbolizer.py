@@ -3,12 +3,14 @@
 
 Usage: symbolizer.py PROGRAM EXE ADDRESSES [SHOWN [OPTION..]]
 
-EXE is a program with its PDB file beside it, and both are asked with the same words, `--obj=EXE --relative-address` and
-the options. ADDRESSES is a file with an address a line, relative to where the program is loaded. Each style (LLVM, GNU, JSON) is
-asked for with each set of options over all of them, and with each other option by itself, and the answers are compared
-address by address. A line is printed for each run, with how many answers are the same and how many differ by kind, and the
-first SHOWN of each kind. With OPTIONs this one set of options is tried. LLVM in the environment names another program to
-compare with. Both are run in the folder of EXE, where source files are looked for.
+EXE is a program with its PDB file in the same folder. Both programs get the same arguments: `--obj=EXE
+--relative-address` and the options. ADDRESSES is a file with one address per line, relative to the load address. In
+each style (LLVM, GNU, JSON), all addresses are looked up with each set of options, and with each other option by
+itself. The answers are compared address by address.
+
+For each run the script prints how many answers are the same, how many differ by kind, and the first SHOWN of each kind.
+If OPTIONs are given, only this set of options is tried. The environment variable LLVM names another program to compare
+with. Both programs run in the folder of EXE, and look for source files there.
 
 lines    another number of lines
 name     a function's name
@@ -16,8 +18,8 @@ unnamed  a function's name that only one of them answers
 place    a location that only one of them knows
 folder   a file's folders
 file     a file's name
-line     a line's number, and nothing else
-form     anything else, as an empty line that one of them has
+line     a line's number, and maybe the file's folders
+form     anything else, such as an empty line that one of them has
 """
 import collections
 import itertools
@@ -43,7 +45,7 @@ KINDS = ("form", "name", "unnamed", "place", "file", "line", "folder")
 
 
 def option_sets():
-    """Each set of options that is tried."""
+    """Yields the sets of options to try."""
     for names, inlines in itertools.product(NAMES, INLINES):
         for count in range(len(FLAGS) + 1):
             for flags in itertools.combinations(FLAGS, count):
@@ -53,13 +55,13 @@ def option_sets():
 
 
 def asked(words, addresses, folder):
-    """What a program prints where it reads these addresses."""
+    """Returns what a program prints for these addresses."""
     text = "".join(f"{address}\n" for address in addresses)
     return subprocess.run(words, input=text, capture_output=True, text=True, cwd=folder).stdout
 
 
 def json_answers(text):
-    """The objects of a text, one behind the other, whatever the space between them."""
+    """Parses the JSON objects of a text, with any white space between them."""
     decoder, at, answers = json.JSONDecoder(), 0, []
     while at < len(text):
         answer, at = decoder.raw_decode(text, at)
@@ -69,14 +71,14 @@ def json_answers(text):
 
 
 def name_kind(ours, theirs):
-    """How two names of functions differ, or None."""
+    """Returns how two names of functions differ, or None."""
     if ours == theirs:
         return None
     return "unnamed" if {ours, theirs} & {"", "??"} else "name"
 
 
 def place_kind(ours, theirs):
-    """How two locations differ, each a file and a line, or None."""
+    """Returns how two locations differ, or None. Each is a file and a line."""
     if ours == theirs:
         return None
     if ours[0] == theirs[0]:
@@ -90,12 +92,12 @@ def place_kind(ours, theirs):
 
 
 def first_kind(kinds):
-    """The gravest of some kinds, or None."""
+    """Returns the first of KINDS that is among these kinds, or None."""
     return next((kind for kind in KINDS if kind in kinds), None)
 
 
 def json_kind(ours, theirs):
-    """How two answers in JSON differ, or None."""
+    """Returns how two answers in JSON differ, or None."""
     if ours == theirs:
         return None
     if [*ours] != [*theirs] or ours.get("Address") != theirs.get("Address"):
@@ -110,7 +112,7 @@ def json_kind(ours, theirs):
 
 
 def line_kind(ours, theirs):
-    """How two lines differ, or None."""
+    """Returns how two lines differ, or None."""
     if ours == theirs:
         return None
     ours, theirs = FRONT.sub("", ours), FRONT.sub("", theirs)
@@ -126,14 +128,14 @@ def line_kind(ours, theirs):
 
 
 def plain_kind(ours, theirs):
-    """How two answers in lines differ, or None."""
+    """Returns how two answers in lines differ, or None."""
     if len(ours) != len(theirs):
         return "lines"
     return first_kind({line_kind(*pair) for pair in zip(ours, theirs)})
 
 
 class Comparison:
-    """Two programs, asked the same."""
+    """Two programs that get the same arguments and addresses."""
 
     def __init__(self, program, exe, addresses):
         self.plain_addresses = addresses
@@ -143,21 +145,22 @@ class Comparison:
         self.words = [f"--obj={name}", "--relative-address"]
 
     def adjust(self, options):
-        """Has the addresses be such that the options leave those that are meant."""
+        """Adds to the addresses what `--adjust-vma` subtracts, so that the same code is looked up."""
         offset = 4096 if ADJUST in options else 0
         self.addresses = [f"0x{int(address, 16) + offset:x}" for address in self.plain_addresses]
 
     def texts(self, options, addresses):
-        """What both print."""
+        """Returns what both programs print."""
         return [asked([program, *self.words, *options], addresses, self.folder) for program in self.programs]
 
     def json(self, options):
-        """The answers of both in JSON."""
+        """Returns the kinds of differences between the answers in JSON, and the pairs of answers."""
         ours, theirs = (json_answers(text) for text in self.texts(options, self.addresses))
         return [json_kind(*pair) for pair in zip(ours, theirs, strict=True)], list(zip(ours, theirs))
 
     def plain(self, options):
-        """The answers of both in lines, where an address between them shows where each begins."""
+        """Returns the same for answers in lines. `--addresses` is added, so that each answer begins with its
+        address."""
         marked = [*options] if "--addresses" in options else [*options, "--addresses"]
         pairs = zip(*(split(text, self.addresses) for text in self.texts(marked, self.addresses)), strict=True)
         pairs = list(pairs)
@@ -165,7 +168,7 @@ class Comparison:
 
 
 def split(text, addresses):
-    """The lines of each answer; each begins with its address."""
+    """Returns the lines of each answer. Each answer begins with its address."""
     answers, lines = [], text.split("\n")[:-1]
     starts = iter(addresses)
     wanted = next(starts, None)
@@ -178,7 +181,7 @@ def split(text, addresses):
 
 
 def whole(comparison, options):
-    """Whether the texts without addresses are those with them, and the addresses left out: by both programs."""
+    """Returns whether, for both programs, `--addresses` only adds the addresses and changes nothing else."""
     if "--addresses" in options or "--output-style=JSON" in options:
         return True
     end = ": " if "--pretty-print" in options else "\n"

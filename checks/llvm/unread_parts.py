@@ -1,13 +1,14 @@
 #!/usr/bin/env python3
-"""Compares pdb_symbolizer and llvm-symbolizer of LLVM 22 over a PDB file of which a part can't be read.
+"""Compares pdb_symbolizer and llvm-symbolizer of LLVM 22 over a PDB file in which one part can't be read.
 
 Usage: unread_parts.py PROGRAM EXE FIRST LAST
 
-EXE is a program with its PDB file beside it. For each of PARTS a copy of that is written with the part broken: types of an
-old version, no types, ids of an old version, public symbols in no stream or in one behind the last. Both are asked for each
-address from FIRST to LAST, relative to where the program is loaded. Each answer has to have as many frames as LLVM's, with
-the same files and lines. If LLVM's program crashes, the answers are compared with those that it has over the whole PDB file.
-The status is 1 if any differs, or if no line on standard error says what can't be read.
+EXE is a program with its PDB file in the same folder. For each of PARTS a copy of the PDB file is written with that
+part broken, such as types of an old version, no types, or public symbols in a stream that doesn't exist. Both programs
+look up each address from FIRST to LAST, relative to the load address. If their answers over the whole file agree at an
+address, the answers over the copy must have the same number of frames, with the same files and lines. If LLVM's program
+crashes, its answers over the whole file are used. The exit status is 1 if an answer differs, or if no line on standard
+error says what can't be read.
 """
 import json
 import pathlib
@@ -22,7 +23,7 @@ TYPES, DEBUG, IDS = 2, 3, 4
 
 
 class Container:
-    """A PDB file's bytes, and where its streams are."""
+    """A PDB file's bytes, and the positions of its streams."""
 
     def __init__(self, data):
         self.data = bytearray(data)
@@ -32,26 +33,27 @@ class Container:
         self.count = self.number(0)
 
     def place(self, offset):
-        """Where the directory's byte at this offset is in the file."""
+        """Returns the position in the file of the directory's byte at this offset."""
         return self.directory[offset // self.block] + offset % self.block
 
     def number(self, position):
-        """The directory's number at this position."""
+        """Returns the directory's number at this position."""
         return struct.unpack_from("<I", self.data, self.place(4 * position))[0]
 
     def start(self, stream):
-        """Where the first byte of a stream is in the file."""
+        """Returns the position in the file of a stream's first byte."""
         sizes = [self.number(1 + at) for at in range(self.count)]
         before = sum(-(-size // self.block) for size in sizes[:stream] if size != 0xFFFFFFFF)
         return self.number(1 + self.count + before) * self.block
 
     def put(self, stream, offset, form, value):
-        """The file with a number in the first block of a stream."""
+        """Returns the file with a number overwritten in the first block of a stream."""
         struct.pack_into(form, self.data, self.start(stream) + offset, value)
         return bytes(self.data)
 
     def resize(self, stream, size):
-        """The file with another size of its last stream but for those that have blocks after it: an empty one."""
+        """Returns the file with an emptied stream. Its size becomes 0, or 0xFFFFFFFF for no stream, and its blocks are
+        removed from the directory."""
         place = self.place(4 * (1 + stream))
         old = struct.unpack_from("<I", self.data, place)[0]
         blocks = -(-old // self.block)
@@ -63,7 +65,7 @@ class Container:
         return bytes(self.data)
 
     def all_blocks(self):
-        """How many blocks all streams have."""
+        """Returns the number of blocks of all streams."""
         sizes = [self.number(1 + at) for at in range(self.count)]
         return sum(-(-size // self.block) for size in sizes if size != 0xFFFFFFFF)
 
@@ -79,13 +81,13 @@ PARTS = {
 
 
 def places(text):
-    """For each answer the files and lines of its frames."""
+    """Returns the files and lines of each answer's frames."""
     return [[(frame["FileName"], frame["Line"]) for frame in json.loads(line).get("Symbol", [])]
             for line in text.splitlines()]
 
 
 def ask(program, exe, addresses):
-    """What a program prints for addresses, and on standard error."""
+    """Returns the files and lines that a program prints for addresses, and its standard error."""
     run = subprocess.run([program, f"--obj={exe}", "--relative-address", "--output-style=JSON"], input="\n".join(addresses) + "\n",
                          capture_output=True, text=True)
     return places(run.stdout), run.stderr

@@ -1,12 +1,12 @@
 #!/usr/bin/env python3
-"""Compares the unwind infos that llvm-readobj shows of x64 programs with those that the second implementation reads.
+"""Compares the unwind infos that llvm-readobj shows for x64 programs with those that the second implementation reads.
 
 Usage: unwind_codes.py READOBJ FILE..     READOBJ is llvm-readobj of LLVM 22
 
 `READOBJ --unwind` shows the functions of the exception directory of each FILE. For each one, `stack_records.py` of
-`pdb_symbolizer_tests` has to read the same version, size of the prologue, frame register and codes: those that push, allocate,
-save and set the frame, with their offsets and operands. The records of symbol files are compared with that script elsewhere.
-Each difference is printed, and how many functions were compared.
+`pdb_symbolizer_tests` must read the same version, size of the prologue, frame register and codes. The codes are those
+that push, allocate, save and set the frame, with their offsets and operands. Other checks compare the records of symbol
+files with that script. The script prints each difference, and how many functions were compared.
 """
 import pathlib
 import re
@@ -24,12 +24,12 @@ ADDRESS = re.compile(r"\(0x([0-9A-F]+)\)")
 
 
 def operand(text, name):
-    """The value of an operand."""
+    """Returns the value of an operand."""
     return re.search(rf"\b{name}=([^,\s]+)", text)[1]
 
 
 def shown_code(offset, name, operands):
-    """A code as the second implementation has it, or None if it has no such code."""
+    """Returns a code in the form of the second implementation, or None if that has no such code."""
     if name == "PUSH_NONVOL":
         return offset, "push", REGS.index(operand(operands, "reg").lower())
     if name in ("ALLOC_SMALL", "ALLOC_LARGE"):
@@ -44,8 +44,9 @@ def shown_code(offset, name, operands):
 
 
 def shown(text, base):
-    """The functions that llvm-readobj shows, each with its begin, its end, and what its info says. The fields of an info to
-    which it is chained follow its own. Where the info can't be read there are only addresses, less the image base."""
+    """Yields the functions that llvm-readobj shows, with begin, end, and the fields of the unwind info. If an info is
+    chained, the fields of the next one follow its own, so the first ones count. If the info can't be read, llvm-readobj
+    shows no fields, and addresses without the image base."""
     for function in FUNCTION.finditer(text):
         fields = dict(reversed(FIELD.findall(function[1])))
         begin, end = (int(ADDRESS.search(fields[name])[1], 16) for name in ("StartAddress", "EndAddress"))
@@ -60,7 +61,7 @@ def shown(text, base):
 
 
 def read(image, unwind):
-    """What the second implementation reads of an info, or None if it can't be read."""
+    """Returns what the second implementation reads of an info, or None if it can't be read."""
     try:
         own = info(image, unwind)
     except ValueError:

@@ -2,10 +2,10 @@
 
 Usage: calls.py PROGRAM COUNT [FIRST_SEED]
 
-Over the records file of each seed from FIRST_SEED (0) on that the library takes and that has no module files, it writes
-one to three lists of calls, each to a context of its own, with what the model answers. The program makes them in one
-run, and prints the first call of each list whose answers are other ones. COUNT is how many lists there are at least.
-The status is 1 where a list differs.
+The script makes a random records file for each seed from FIRST_SEED (0) on. It skips files with module files, and files
+that the library refuses. Over each other file it writes one to three lists of calls with the model's answers. Each list
+has a context of its own. It stops after COUNT lists or a few more. The program makes all calls in one run, and prints
+the first wrong call of each list. The exit status is 1 if a list differs.
 """
 import os
 import random
@@ -28,7 +28,7 @@ MOST_CALLS = 24
 
 
 def end_of(context, found):
-    """Where a function ends that was found: None where that is not known or past 32 bits."""
+    """Returns the end of a function that was found, or None if it is unknown or doesn't fit 32 bits."""
     if found.procedure:
         end = address_of(context.address_map, found.section, found.start) + found.procedure.len
         return end if end <= GREATEST else None
@@ -65,7 +65,7 @@ def functions_text(context):
 
 
 def answer(context, call):
-    """What the model answers to a call, as the program writes it."""
+    """Returns the model's answer to a call, as the program writes it."""
     kind, *words = call
     try:
         if kind == "function":
@@ -86,7 +86,7 @@ def answer(context, call):
 
 
 def call_text(call):
-    """A call as a line has it."""
+    """Returns the line for a call."""
     kind, *words = call
     if kind in ("function", "frames"):
         return f"{kind} {words[0]:x}"
@@ -96,20 +96,20 @@ def call_text(call):
 
 
 def addresses_of(runs):
-    """The addresses that the runs over a random file ask for."""
+    """Returns the addresses that the runs over a random file look up."""
     parsed = [parse_words(["FILE", *words]) for words in runs]
     return sorted({address for run in parsed if run for address in run[2]}) or [0x1000]
 
 
 def indices_of(chance, reading):
-    """Indices to ask for: of the list, beside it, and of other modules."""
+    """Returns type or id indices to look up: those of the list, those next to them, and cross-module indices."""
     own = [item.index for item in reading.items] or [0x1000]
     return own * 3 + [index + 1 for index in own] + [0] + [
         FIRST_CROSS_MODULE | chance.randrange(2) << 20 | chance.randrange(3) for _ in range(len(own))]
 
 
 def random_calls(chance, context, addresses):
-    """A list of calls to a context; some of them stand in it several times."""
+    """Returns a random list of calls to a context. Some calls are repeated."""
     types, ids = indices_of(chance, context.types), indices_of(chance, context.ids)
     modules = list(range(len(context.modules) + 1)) or [0]
     calls = []
@@ -129,7 +129,7 @@ def random_calls(chance, context, addresses):
 
 
 def list_text(pdb, calls, counts):
-    """A list of calls with the model's answers, or None where an answer can't stand in a line."""
+    """Returns a list of calls with the model's answers, or None if an answer doesn't fit in one line."""
     context = Context(pdb)
     lines = []
     for call in calls:
@@ -143,7 +143,7 @@ def list_text(pdb, calls, counts):
 
 
 def lists_over(seed, data, runs, counts):
-    """The lists of calls over the file of a seed; none where the library refuses it."""
+    """Returns the lists of calls over the file of a seed. There are none if the library refuses the file."""
     try:
         pdb = read_records(data, [])
         Context(pdb)
@@ -158,7 +158,7 @@ def lists_over(seed, data, runs, counts):
 
 
 def write_lists(folder, count, first):
-    """Writes files and lists of calls into a folder, until there are so many lists; answers counts."""
+    """Writes files and lists of calls into a folder, until there are `count` lists. Returns statistics."""
     counts = Counter()
     with open(f"{folder}/calls.txt", "wb") as calls:
         seed = first

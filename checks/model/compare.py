@@ -2,9 +2,9 @@
 
 Usage: compare.py PROGRAM COUNT [FIRST_SEED] [JOBS]
 
-The files are those of COUNT seeds from FIRST_SEED (0) on. Of each run standard output, standard error and the
-status are compared. Up to 20 differences are printed, and then statistics of what the runs met. With `-` for
-PROGRAM the model runs alone, and the statistics alone are printed. The status is 1 where a run differs.
+The files are those of COUNT seeds from FIRST_SEED (0) on. For each run, standard output, standard error and the status
+are compared. The script prints up to 20 differences, and then statistics of what the runs reached. If PROGRAM is `-`,
+the model runs alone, and only the statistics are printed. The exit status is 1 if a run differs.
 """
 import itertools
 import multiprocessing
@@ -27,7 +27,7 @@ MODEL_ALONE = "-"
 
 
 def ask(program, words):
-    """What a run of the program leaves."""
+    """Returns the standard output, status and standard error of a run."""
     try:
         done = subprocess.run([program, *words], capture_output=True, timeout=60)
         return done.stdout, done.returncode, done.stderr
@@ -38,7 +38,8 @@ def ask(program, words):
 
 
 def compare_seed(program, seed):
-    """The counts and the differences of one seed. Its files stand in the current folder meanwhile."""
+    """Returns the counts and the differences of one seed. Its files are written to the current folder, and removed
+    after the runs."""
     data, modules, runs = generate(seed)
     name = f"{seed}.json"
     counts, differences = Counter(seeds=1), []
@@ -70,7 +71,7 @@ def compare_seed(program, seed):
 
 
 def without_numbers(text, name):
-    """The text of an error with its larger numbers and those of paths left out."""
+    """Replaces the larger numbers in the text of an error, and those in paths."""
     text = text.replace(name, "FILE")
     if text.startswith("pdb_report: FILE: /"):
         text = re.sub(r"/\d+", "/N", text)
@@ -78,7 +79,7 @@ def without_numbers(text, name):
 
 
 def count_run(counts, words, wanted, name):
-    """Counts what the model's answer to a run shows."""
+    """Counts what the expected output of a run shows."""
     stdout, status, stderr = wanted[0].decode(), wanted[1], wanted[2].decode()
     counts["runs"] += 1
     counts[f"status {status}"] += 1
@@ -141,7 +142,7 @@ def print_statistics(program, counts, seconds):
 
 
 def show(difference):
-    """Prints a difference, of standard output its lines that differ."""
+    """Prints a difference. Only differing lines of standard output are printed."""
     seed, words, wanted, got = difference
     print(f"--- seed {seed}: {' '.join(words)}")
     for who, (_, status, stderr) in (("model", wanted), ("program", got)):
@@ -154,7 +155,7 @@ def show(difference):
 
 
 def compare_seeds(job):
-    """The counts and differences of some seeds, in a folder of their own."""
+    """Returns the counts and differences of some seeds, which run in a folder of their own."""
     program, seeds, folder = job
     os.makedirs(folder, exist_ok=True)
     os.chdir(folder)
@@ -162,7 +163,7 @@ def compare_seeds(job):
 
 
 def gather(answers):
-    """The counts of all seeds; shows differences, and ends when enough were shown."""
+    """Adds up the counts of all seeds. Prints differences, and stops when enough are printed."""
     counts = Counter()
     for seed_counts, differences in answers:
         for difference in differences[:max(0, MOST_SHOWN - counts["differ"])]:
@@ -176,7 +177,7 @@ def gather(answers):
 
 
 def main(program, count, first=0, jobs=1):
-    """Compares all seeds in a folder that is removed at the end, and gives the status."""
+    """Compares all seeds in a folder that is removed at the end. Returns the exit status."""
     if program != MODEL_ALONE:
         program = os.path.abspath(program)
     began = time.time()

@@ -1,5 +1,4 @@
-"""The errors that look-ups end with, the parts of the records that were met broken, and counts of what was
-met, for the statistics of compare.py."""
+"""The errors that end lookups, the parts of the records that were found broken, and the statistics for compare.py."""
 from collections import Counter
 
 MET = Counter()
@@ -19,12 +18,12 @@ PLAIN = {
 
 
 def note(key):
-    """Counts something that was met."""
+    """Counts an event for the statistics."""
     MET[key] += 1
 
 
 class Error(Exception):
-    """An error of the program: the name of its variant, its text, and the number in it, if there is one."""
+    """An error of the program: the name of its variant, its text, and the number in it, if any."""
 
     def __init__(self, variant, text, number=None):
         super().__init__(text)
@@ -32,13 +31,14 @@ class Error(Exception):
 
 
 class FailedParts:
-    """The parts of the records that were met broken: each answers its own error once."""
+    """The parts of the records that were found broken. Each returns its own error once."""
 
     def __init__(self):
         self.parts = set()
 
     def ask(self, part, unsuccessful, read):
-        """What `read` answers; the error of a part that failed before is the plain one `unsuccessful`."""
+        """Returns what `read` returns. If the part failed before, raises the error `unsuccessful` instead of its
+        own."""
         try:
             return read()
         except Error:
@@ -49,7 +49,7 @@ class FailedParts:
 
 
 def plain(variant):
-    """An error that says nothing but its variant."""
+    """An error whose text depends only on its variant."""
     return Error(variant, PLAIN[variant])
 
 
@@ -58,7 +58,7 @@ def circular(index):
 
 
 def of_reader(variant, text, number):
-    """An error of the reader of the database."""
+    """An error of the PDB reader."""
     return Error(variant, "PDB error: " + text, number)
 
 

@@ -1,4 +1,4 @@
-"""Inlined bodies, line rows, and the two look-ups: the function over an address, and its frames."""
+"""Inlined calls, line rows, and the two lookups: the function at an address, and its frames."""
 from errors import Error, FailedParts, note
 from functions import GREATEST, PROCEDURE_KINDS, Program, address_of, pick, refuse_failed, refuse_fault
 from records import Record
@@ -8,14 +8,13 @@ SITE_KINDS = PROCEDURE_KINDS | {0x114D, 0x115D}
 
 
 def inline_sites(symbols, procedure):
-    """The inline sites of a procedure in the order of symbols, each with the positions of those around it.
+    """Returns the inline sites of a procedure in the order of symbols, each with the positions of the sites around it.
 
-    A symbol at or behind the innermost open end closes that one and does nothing else. The walk stops at the
-    procedure's own end. An inner procedure is passed over, with the symbol at its end.
-    """
+    A symbol at or after the end of the innermost open site closes that site and does nothing else. The walk stops at
+    the procedure's own end. An inner procedure is skipped, with the symbol at its end."""
     sites = []
     ends = [procedure.end]
-    around = []  # the positions of the open sites, outer first
+    around = []  # positions of the open sites, outermost first
     position = procedure.position + 1
     while position < len(symbols):
         data = symbols[position].data
@@ -42,7 +41,7 @@ def intervals(rows):
 
 
 def runs_missing(covered, own):
-    """The maximal runs of the numbers that `covered` has and `own` hasn't, ascending."""
+    """Returns the maximal runs of the numbers that `covered` has and `own` hasn't, ascending."""
     edges = sorted({edge for interval in covered + own for edge in interval})
     runs = []
     for low, high in zip(edges, edges[1:]):
@@ -56,7 +55,7 @@ def runs_missing(covered, own):
 
 
 def counting_rows(site, inlinees):
-    """The rows of a site that aren't empty; none where the module doesn't list its inlinee."""
+    """Returns the rows of a site that aren't empty. There are none if the module doesn't list the site's inlinee."""
     if site.data.inlinee not in inlinees:
         note("site without an inlinee")
         return []
@@ -64,7 +63,7 @@ def counting_rows(site, inlinees):
 
 
 def own_ranges(site):
-    """The ranges of a site's rows: (start, end, what stands there)."""
+    """Returns the ranges of a site's rows, as (start, end, inlined function with file and line)."""
     return [(row.offset, row.offset + row.length,
              Record(inlinee=site.data.inlinee, file=row.file_index, line=row.line_start))
             for row in site.rows]
@@ -82,7 +81,8 @@ def added_ranges(site, sites):
 
 
 def inline_ranges(symbols, procedure, inlinees):
-    """For each depth the list of its ranges: own ones of all sites there, and then the added ones."""
+    """Returns for each depth the list of its ranges: first the own ranges of all sites there, and then the added
+    ones."""
     sites = inline_sites(symbols, procedure)
     for site in sites:
         site.rows = counting_rows(site, inlinees)
@@ -95,7 +95,7 @@ def inline_ranges(symbols, procedure, inlinees):
 
 
 def inline_stack(depths, offset):
-    """What stands over an offset at each depth, outer first, up to the first depth with nothing."""
+    """Returns the inlined function over an offset at each depth, outermost first, up to the first depth without one."""
     stack = []
     for ranges in depths:
         best = pick(ranges, offset)
@@ -106,7 +106,8 @@ def inline_stack(depths, offset):
 
 
 def row_over(rows, offset):
-    """The line row that starts last at an offset or below; of equal starts the first."""
+    """Returns the line row with the greatest start that is at or below an offset. Of equal starts, the first row
+    wins."""
     best = None
     for row in rows:
         if row.offset <= offset and (best is None or row.offset > best.offset):
@@ -115,7 +116,7 @@ def row_over(rows, offset):
 
 
 class Context(Program):
-    """The look-ups of a program, with what they remember of broken parts."""
+    """The lookups of a program, and the broken parts that they remember."""
 
     def __init__(self, pdb):
         super().__init__(pdb)
@@ -125,7 +126,7 @@ class Context(Program):
     # ---------------------------------------------------------------- names
 
     def printed(self, call):
-        """What is printed, or None where printing fails."""
+        """Returns the printed text, or None if printing fails."""
         try:
             return call()
         except Error as error:
@@ -133,11 +134,10 @@ class Context(Program):
             return None
 
     def function_name(self, found):
-        """The name of what was found: a procedure's signature, or the name of a global function.
+        """Returns the name of a function: a procedure's signature, or the name of a global function.
 
-        A procedure with no type and no decorated name goes by the public symbol at its start, where that one
-        has a decorated name.
-        """
+        If a procedure has no type and no decorated name, the public symbol at its start names it, if that has a
+        decorated name."""
         procedure = found.procedure
         if procedure is None:
             note("global function" if found.name is not None else "placeholder")
@@ -152,11 +152,10 @@ class Context(Program):
     # ------------------------------------------------------------ functions
 
     def find_function(self, address):
-        """(start, end or None, name or None) of the function over an address, or None.
+        """Returns (start, end or None, name or None) of the function at an address, or None.
 
-        A global function ends where the next one of its section starts. Where that start has no address, no
-        function is found.
-        """
+        A global function ends where the next one of its section starts. If that start has no address, no function is
+        found."""
         found = self.look_up(address)
         if found is None:
             return None
@@ -177,7 +176,7 @@ class Context(Program):
     # --------------------------------------------------------------- frames
 
     def find_frames(self, address):
-        """The frames (function, file, line) over an address, inside first, or None."""
+        """Returns the frames (function, file, line) at an address, innermost first, or None."""
         found = self.look_up(address)
         if found is None:
             return None
@@ -197,13 +196,13 @@ class Context(Program):
         return frames + [(name, self.file_name(line_program, row.file_index), row.line_start)]
 
     def extended(self, info):
-        """The line program and the inlinees of a module."""
+        """Returns the line program and the inlinees of a module."""
         refuse_failed(info.line_program)
         refuse_fault(info.inlinees)
         return info.line_program, set(info.inlinees.items)
 
     def function_lines(self, line_program, found):
-        """The line rows of the first entry for the start of a function."""
+        """Returns the line rows of the first entry for the start of a function."""
         for entry in line_program.entries:
             if (entry.section, entry.offset) == (found.section, found.start):
                 refuse_fault(entry.lines)
@@ -211,7 +210,7 @@ class Context(Program):
         return []
 
     def inline_frames(self, found, info, line_program, inlinees):
-        """The frames of what was inlined, inside first. Names are printed from the outside in."""
+        """Returns the frames of inlined functions, innermost first. Names are printed from the outermost on."""
         if not found.procedure:
             return []
         frames = []
@@ -222,7 +221,7 @@ class Context(Program):
         return frames[::-1]
 
     def file_name(self, line_program, position):
-        """The name of the file at a position of a module's files: the first text with its key."""
+        """Returns the name of a module's file by its position: the first string with the file's reference."""
         if position is None or position >= len(line_program.files) or self.strings is None:
             return None
         for string in self.strings:

@@ -1,9 +1,9 @@
-"""Sections, contributions, global functions and procedures, and which function lies over an address."""
+"""Sections, contributions, global functions and procedures, and the lookup of the function at an address."""
 import errors
 from errors import Error, note
 from records import Failed, Record
 
-GREATEST = 2**32 - 1  # an address or an offset
+GREATEST = 2**32 - 1  # the greatest address or offset
 LAST_SECTION = 65535
 PUBLIC_KINDS = {0x110E, 0x1009}
 PROCEDURE_KINDS = {0x100A, 0x100B, 0x110F, 0x1110, 0x1146, 0x1147, 0x1155, 0x1156}
@@ -18,13 +18,13 @@ def refuse_failed(*streams):
 
 
 def refuse_fault(reading):
-    """Raises the error of the fault behind a reading."""
+    """Raises the error of a list's fault, if it has one."""
     if reading.fault is not None:
         raise errors.stream(reading.fault)
 
 
 def internal_offset(address_map, address):
-    """The section offset of an address, (section, offset): in the first section that holds it."""
+    """Returns the section offset (section, offset) of an address, in the first section that contains it."""
     for number, section in enumerate(address_map[:LAST_SECTION], 1):
         if section.virtual_address <= address < section.virtual_address + section.virtual_size:
             return number, address - section.virtual_address
@@ -32,7 +32,7 @@ def internal_offset(address_map, address):
 
 
 def address_of(address_map, section, offset):
-    """The address of a section offset, where there is such a section and the sum fits 32 bits."""
+    """Returns the address of a section offset, or None if there is no such section or the sum doesn't fit 32 bits."""
     if section == 0 or section > min(len(address_map), LAST_SECTION):
         return None
     address = address_map[section - 1].virtual_address + offset
@@ -44,7 +44,8 @@ def is_executable(sections, number):
 
 
 def pick(intervals, offset):
-    """The interval (start, end, value) over an offset that starts last; of equal starts the first."""
+    """Returns the interval (start, end, value) over an offset with the greatest start. Of equal starts, the first one
+    wins."""
     best = None
     for interval in intervals:
         if interval[0] <= offset < interval[1] and (best is None or interval[0] > best[0]):
@@ -56,10 +57,9 @@ def pick(intervals, offset):
 
 
 def claims_and_starts(reading, sections):
-    """The bytes of the contributions that count, in reading order, and where each of them starts.
+    """Returns the ranges of the contributions that count, in reading order, and the start of each.
 
-    A contribution counts where it isn't empty and its section holds code.
-    """
+    A contribution counts if it isn't empty and its section has code."""
     claims, starts = [], []
     for contribution in reading.items:
         if contribution.size == 0 or not is_executable(sections, contribution.section):
@@ -78,8 +78,9 @@ def claims_and_starts(reading, sections):
 
 
 def merged_contributions(claims):
-    """The claims by section, start, end and module, of which one joins the interval before it where that is of
-    its module and section, up to the greater end. Any other that starts below that end is refused."""
+    """Sorts the claims by section, start, end and module, and merges them. A claim joins the interval before it if both
+    have the same section and module. The interval then ends at the greater end. Any other claim of the section that
+    starts before that end is refused."""
     merged = []
     for claim in sorted(claims, key=lambda c: (c.section, c.start, c.end, c.module)):
         before = merged[-1] if merged and merged[-1].section == claim.section else None
@@ -101,10 +102,10 @@ def merged_contributions(claims):
 
 
 def global_functions(symbols, sections, contribution_starts):
-    """The name, or None, of the global function at each section offset: of several at one the first.
+    """Returns the name, or None, of the global function at each section offset. If several are at one offset, the first
+    wins.
 
-    Public symbols are listed first, then the starts of contributions and the ends of sections that hold code.
-    """
+    The order is: public symbols, starts of contributions, ends of sections with code."""
     functions = {}
     for symbol in symbols:
         data = symbol.data
@@ -120,11 +121,10 @@ def global_functions(symbols, sections, contribution_starts):
 
 
 def name_and_type(data, last):
-    """The name and the type of a symbol with code; None where its code doesn't count.
+    """Returns the name and the type of a symbol with code, or None if it doesn't count.
 
-    A thunk has no type. Code apart from its body counts where its parent starts where the last procedure that
-    counts does, and takes that one's name and type.
-    """
+    A thunk has no type. Separated code counts if its parent starts where the last procedure that counts starts. It
+    takes that procedure's name and type."""
     if data.kind == "Procedure":
         return data.name, data.type_index
     if data.kind == "Thunk":
@@ -137,7 +137,8 @@ def name_and_type(data, last):
 
 
 def procedure_at(position, symbol, last):
-    """The procedure that the symbol at a position shows, if it counts; `last` is the last that did."""
+    """Returns the procedure of the symbol at a position, or None if it doesn't count. `last` is the last one that
+    counted."""
     data = symbol.data
     if symbol.raw_kind not in CODE_KINDS or data is None:
         return None
@@ -151,7 +152,7 @@ def procedure_at(position, symbol, last):
 
 
 def symbol_procedures(symbols):
-    """The procedures of a module in reading order, of each start the first."""
+    """Returns the procedures of a module in reading order. Of several with one start, the first counts."""
     first_of_start = {}
     last = None
     for position, symbol in enumerate(symbols):
@@ -163,10 +164,10 @@ def symbol_procedures(symbols):
 
 
 class Program:
-    """The inputs of a context, and the look-up of functions in them."""
+    """The inputs of a context, and the lookup of functions in them."""
 
     def __init__(self, pdb):
-        """Refuses what can't be read. The first refusal in this order is the error."""
+        """Refuses what can't be read. If several parts can't be read, the first in this order gives the error."""
         refuse_failed(pdb.global_symbols, pdb.debug_information, pdb.type_information, pdb.id_information,
                       pdb.address_map)
         debug = pdb.debug_information
@@ -185,11 +186,12 @@ class Program:
         self.module_infos = pdb.module_infos
 
     def provided_info(self, module):
-        """The records of the module at a module index: an info, None or Failed."""
+        """Returns the records of the module at a module index: an info, None or Failed."""
         return self.module_infos[module] if module < len(self.module_infos) else None
 
     def readable_info(self, module):
-        """The info of a module of the list whose symbols could be read, or None."""
+        """Returns the info of a module in the list of modules, or None if there is none or its symbols can't be
+        read."""
         if module >= len(self.modules):
             return None
         info = self.provided_info(module)
@@ -213,7 +215,7 @@ class Program:
         return over and over[2]
 
     def global_start(self, section, offset):
-        """Where the last global function of a section starts that starts at an offset or below."""
+        """Returns the greatest start of a global function of a section that is at or below an offset, or None."""
         return max((start for number, start in self.globals if number == section and start <= offset),
                    default=None)
 
@@ -222,11 +224,11 @@ class Program:
                    default=None)
 
     def look_up(self, address):
-        """What lies over an address: its section offset, its module, and where the function there starts, with either
-        its procedure or the name of the global function. None where no function lies there.
+        """Returns what is at an address: its section offset, its module, the start of the function, and either the
+        procedure or the name of the global function. Returns None if no function is there.
 
-        A procedure over the section offset goes before a global function; that has to start in the contribution.
-        """
+        A procedure over the section offset comes before a global function. A global function must start in the
+        contribution."""
         place = internal_offset(self.address_map, address)
         contribution = place and self.contribution_over(*place)
         if not contribution:
@@ -244,7 +246,7 @@ class Program:
         return found
 
     def start_addresses(self):
-        """The addresses at which functions start, ascending and each once."""
+        """Returns the addresses at which functions start, ascending and without repeats."""
         places = set(self.globals)
         for module in range(len(self.modules)):
             places |= {(procedure.section, procedure.offset) for procedure in self.procedures(module)}

@@ -1,10 +1,10 @@
-"""A random records file and what to ask about it.
+"""Makes a random records file, and the runs to make over it.
 
-generate(seed) gives its bytes, those of its module files by their names, and the words of the runs.
+generate(seed) returns the file's bytes, the bytes of its module files by name, and the arguments of the runs.
 
 Usage: generate.py SEED
 
-It writes the file's text to standard output, and each module file and the words of each run to standard error.
+It writes the file's text to standard output, and each module file and the arguments of each run to standard error.
 """
 import sys
 
@@ -19,8 +19,8 @@ MACHINES = ["Amd64", "Amd64", "Arm64", "Ia64", "RiscV64", "RiscV128", "I386", "O
 
 class Generator(Code, Runs):
     def records(self):
-        """The value of a records file."""
-        self.crossing = self.choose([0, 0, 0.04, 0.1, 0.25])  # how often an index is of another module
+        """Returns the value of a records file."""
+        self.crossing = self.choose([0, 0, 0.04, 0.1, 0.25])  # how often an index is a cross-module index
         self.make_layout()
         self.starts = []
         self.make_modules()
@@ -39,7 +39,7 @@ class Generator(Code, Runs):
         return self.file(types, ids, strings, contributions, infos, publics)
 
     def make_modules(self):
-        """The names of the modules, the numbers that each exports, and the keys of files."""
+        """Makes the names of the modules, the numbers that each exports, and the references of files."""
         is_wild = self.wildness and self.mode == "mixed"
         self.modules = [self.choose(MODULE_NAMES[:5] if self.chance(0.7) else MODULE_NAMES)
                         for _ in range(self.choose([0, 1, 1, 1, 2, 2, 3, 3] if is_wild else [1, 2, 3]))]
@@ -48,7 +48,7 @@ class Generator(Code, Runs):
         self.refs = [1, 2, 3, 4] + ([5, 0] if self.wildness else [])
 
     def make_strings(self):
-        """The names of files, of which one key may stand twice, and of modules."""
+        """Returns strings: the names of files and modules. The reference 3 may occur twice."""
         strings = [{"ref": key, "text": self.choose(FILE_NAMES)}
                    for key in self.random.sample([1, 2, 3, 4, 3], 4)]
         for n, name in enumerate(self.modules):
@@ -61,7 +61,7 @@ class Generator(Code, Runs):
         return strings
 
     def make_infos(self, contributions):
-        """The records of the modules; they may be one too few, or one too many."""
+        """Returns the records of the modules. There may be one too few or one too many."""
         infos = []
         count = len(self.modules)
         for n in range(count):
@@ -74,7 +74,7 @@ class Generator(Code, Runs):
         return infos
 
     def file(self, types, ids, strings, contributions, infos, publics):
-        """The file of these records, with some streams that failed."""
+        """Returns the file of these records, with some streams that failed."""
         seldom = 0.012
         file = {
             "sections": self.stream(seldom, None if self.broken(0.01) else self.sections),
@@ -99,7 +99,7 @@ NAMES = ("name", "unique_name", "text")
 
 
 def with_bytes(chance, value):
-    """The value with some of its names as their bytes; some of these are no UTF-8, and a few no bytes."""
+    """Writes some names of the value as arrays of bytes. Some of these are not UTF-8, and a few are not bytes."""
     if isinstance(value, list):
         return [with_bytes(chance, element) for element in value]
     if not isinstance(value, dict):
@@ -117,8 +117,8 @@ def with_bytes(chance, value):
 
 
 def with_module_files(chance, file, prefix):
-    """The file with some infos in module files, and these by their names. A few of them are not there, and a few
-    are no JSON or null."""
+    """Moves some infos to module files, and returns the file and the module files by name. A few of these are missing,
+    and a few references to them are invalid."""
     files = {}
     if not isinstance(file.get("module_infos"), list):
         return file, files
@@ -139,14 +139,14 @@ def with_module_files(chance, file, prefix):
 
 
 def in_version_two(generator, seed, file):
-    """The file in the second version, and the values of its module files by their names."""
+    """Returns the file in version 2, and the values of its module files by name."""
     chance = generator.random
     file = dict(with_bytes(chance, file), version=2)
     return with_module_files(chance, file, str(seed))
 
 
 def module_bytes(generator, value):
-    """The bytes of a module file; a few are broken."""
+    """Returns the bytes of a module file. A few are broken."""
     roll = generator.random.random()
     if roll < 0.02:
         return generator.choose([b"", b"{", b"null", b"[]", b'{"error":null}', b"\xff"])
@@ -156,7 +156,8 @@ def module_bytes(generator, value):
 
 
 def generate(seed):
-    """The bytes of a file, its module files, and the words of its runs. About every fourth file has a fault."""
+    """Returns the bytes of a file, its module files, and the arguments of its runs. About every fourth file has a
+    fault."""
     generator = Generator(seed)
     file = generator.records()
     runs = generator.runs(file)

@@ -1,9 +1,9 @@
-//! Prints what `pdb_report` prints of addresses, with the records read once for all of them:
+//! Prints what `pdb_report` prints for addresses. It reads the records once, for all addresses:
 //!
 //!     opened RECORDS (frames|names) ADDRESS..
 //!
-//! Each address is a question of its own. An address is a hexadecimal number. The status is 1 where the library
-//! refuses, and 2 for all else.
+//! Each address is looked up by a call of its own. An address is a hexadecimal number. The exit status is 1 if the
+//! library refuses the records or a call, and 2 for all other errors.
 
 use limberlime::{Error, Program};
 use std::io::Write;
@@ -49,7 +49,7 @@ fn call(command: &str) -> Option<Call> {
     }
 }
 
-/// The texts of addresses, each asked for by itself.
+/// The texts of all addresses, one call for each.
 fn texts(call: Call, records: &[u8], addresses: &[u32]) -> Result<String, Error> {
     let mut program = Program::open_records(records)?;
     addresses

@@ -1,8 +1,8 @@
-//! Prints how many milliseconds opening a PDB file with a first question takes, and each later question:
+//! Prints the milliseconds that opening a PDB file and the first lookup take, and those of each later lookup:
 //!
 //!     questions PDB ADDRESSES
 //!
-//! ADDRESSES is a file with an address a line, in hexadecimal digits, relative to where the program is loaded.
+//! ADDRESSES is a file with one address per line, in hexadecimal digits, relative to the load address.
 
 use limberlime::Program;
 use std::error::Error;

@@ -2,7 +2,7 @@
 //!
 //!     stack PDB ADDRESS..
 //!
-//! An address is a hexadecimal number, relative to where the program is loaded.
+//! An address is a hexadecimal number, relative to the load address.
 
 use limberlime::{Error, Frames, Program};
 use std::error;
@@ -33,7 +33,7 @@ fn run(words: &[String]) -> Result<(), Box<dyn error::Error>> {
     Ok(())
 }
 
-/// A PDB file, or else a records file.
+/// Opens a PDB file. If it isn't one, opens it as a records file.
 fn open(bytes: &[u8]) -> Result<Program, Error> {
     match Program::open_pdb(bytes) {
         Err(Error::NotAPdbFile) => Program::open_records(bytes).map_err(|_| Error::NotAPdbFile),

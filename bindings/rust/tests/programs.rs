@@ -1,4 +1,4 @@
-//! Questions to a small program, and what is refused.
+//! Tests of lookups in a small program, and of files that are refused.
 
 use limberlime::{debug_id, machine, version, Error, Frame, Program};
 use std::fs;
