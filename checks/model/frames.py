@@ -70,10 +70,9 @@ def own_ranges(site):
 
 
 def added_ranges(site, sites):
-    """The ranges that a site gets where sites inside of it have rows and it has none itself.
+    """Returns the ranges that a site gets because sites inside of it have rows there and it has none itself.
 
-    They have the file of its first row and no line.
-    """
+    They have the file of the site's first row and no line."""
     inner = [row for other in sites if site.position in other.around for row in other.rows]
     file = site.rows[0].file_index if site.rows else None
     return [(low, high, Record(inlinee=site.data.inlinee, file=file, line=None))

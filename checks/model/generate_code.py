@@ -7,12 +7,12 @@ PROCEDURE_KINDS = [0x110F, 0x1110, 0x1110, 0x1110, 0x1146, 0x1147, 0x1155, 0x115
 SITE_KINDS = [0x114D, 0x114D, 0x115D]
 ALL_KINDS = [0x110E, 0x1009, 0x100A, 0x100B, 0x110F, 0x1110, 0x1146, 0x1147, 0x1155, 0x1156, 0x206, 0x1102,
              0x1132, 0x114D, 0x115D, 0x6, 0x114E, 0x1012, 0, 0xFFFF]
-FIRST_MODULE_KEY = 100  # the key of the first module's name among the strings
+FIRST_MODULE_KEY = 100  # the reference of the first module's name in the string table
 PUBLIC_NAMES = ["?f@@YAXXZ", "?g", "?", "foo", "_bar", "", "?é@@", "f", "??0C@@QEAA@XZ", "F"]
 
 
 class Code(Layout, Types):
-    """`starts` are section offsets at which symbols with code start; `module` is the module that is being made."""
+    """`starts` are the section offsets at which symbols with code start. `module` is the module that is being made."""
 
     # -------------------------------------------------------- single symbols
 
@@ -28,7 +28,7 @@ class Code(Layout, Types):
                          "name": self.choose(FUNCTION_NAMES), "end": at + self.choose([0, 1, 2])}}
 
     def rows(self, start, length):
-        """Rows of an inline site of a procedure of this start and length."""
+        """Makes rows of an inline site, for a procedure with this start and length."""
         rows = []
         for _ in self.times(0, 3):
             offset = start + self.choose([0, 0, 4, 8, 8, 0x10, length // 2, length - 1 if length else 0])
@@ -45,7 +45,7 @@ class Code(Layout, Types):
         return self.reading(0.08, rows)
 
     def site(self, start, length):
-        """An inline site of a procedure of this start and length."""
+        """Makes an inline site of a procedure with this start and length."""
         inlinee = self.choose(self.id_indices) if self.id_indices else 0x1001
         if self.crossing and self.chance(0.12):
             inlinee = self.cross_index()
@@ -56,7 +56,7 @@ class Code(Layout, Types):
                          "rows": self.rows(start, length)}}
 
     def other(self):
-        """A symbol of no interest, as the one at which another one ends."""
+        """Makes a symbol without content, such as the one at which a procedure or a site ends."""
         symbol = {"raw_kind": self.choose([0x6, 0x114E, 0x1012, 0x110F]), "data": {"kind": "Other"}}
         if self.chance(0.2):
             symbol["data"] = None
@@ -67,7 +67,7 @@ class Code(Layout, Types):
     # --------------------------------------------------------------- bodies
 
     def add_body(self, symbols, start, length, depth):
-        """Adds sites, mostly nested well, of a procedure of this start and length."""
+        """Adds sites of a procedure with this start and length. Most are nested correctly."""
         for _ in self.times(int(self.mode == "walks"), 3 if depth == 0 else 2):
             if len(symbols) > (30 if self.mode == "walks" else 22):
                 return
@@ -81,11 +81,11 @@ class Code(Layout, Types):
             if depth < 4 and self.chance(0.55):
                 self.add_body(symbols, start, length, depth + 1)
             site["data"]["end"] = len(symbols)
-            if not self.chance(self.bad_nesting * 0.6):  # else it ends at the next symbol, whatever that is
+            if not self.chance(self.bad_nesting * 0.6):  # otherwise it ends at the next symbol, whatever that is
                 symbols.append(self.other())
 
     def add_inner_procedure(self, symbols, start, length, depth):
-        """Adds a procedure inside another, which is passed over there, and maybe a site where it ends."""
+        """Adds a procedure inside another, where it is skipped, and maybe a site that ends at the same symbol."""
         procedure = self.procedure()
         symbols.append(procedure)
         if self.chance(0.6):
@@ -99,7 +99,7 @@ class Code(Layout, Types):
     # -------------------------------------------------------------- symbols
 
     def make_symbols(self):
-        """The symbols of a module."""
+        """Makes the symbols of a module."""
         if self.mode == "signatures" and self.modules:
             return self.many_procedures()
         symbols = []
@@ -112,7 +112,7 @@ class Code(Layout, Types):
         return symbols
 
     def add_code(self, symbols):
-        """Adds a procedure, a thunk or another symbol, and code apart from the body of the first two."""
+        """Adds a procedure, a thunk or another symbol. The first two may get separated code."""
         roll = self.random.random() * (1 if self.mode == "mixed" else 0.8)
         section, offset = self.place(self.module)
         if roll < 0.72:
@@ -130,7 +130,7 @@ class Code(Layout, Types):
                 break
 
     def add_procedure(self, symbols):
-        """Adds a procedure with its sites, and gives its data."""
+        """Adds a procedure with its sites, and returns its data."""
         at = len(symbols)
         symbols.append(self.procedure())
         data = symbols[at]["data"]
@@ -144,7 +144,7 @@ class Code(Layout, Types):
         return data
 
     def add_separated_code(self, symbols, parent):
-        """Adds code apart from the body of what is mostly the parent, and gives its data."""
+        """Adds separated code, mostly of this parent, and returns its data."""
         place = (parent["section"], parent["offset"])
         if self.broken(0.2) or not self.chance(0.8):
             place = self.choose(self.starts + [(parent["section"] % 2 + 1, parent["offset"])])
@@ -159,7 +159,7 @@ class Code(Layout, Types):
         return data
 
     def spoil_symbol(self, symbol, count):
-        """Gives a symbol now and then a wrong end, another kind, or no data."""
+        """Sometimes gives a symbol a wrong end, another kind, or no data."""
         data = symbol.get("data")
         if data and "end" in data and self.chance(self.bad_nesting / 2):
             data["end"] = self.choose([0, self.random.randint(0, count + 1), 0xFFFFFFFF,
@@ -170,7 +170,8 @@ class Code(Layout, Types):
             symbol["data"] = None
 
     def many_procedures(self):
-        """Procedures side by side, each with a site or two over its first bytes: names and ids."""
+        """Makes procedures side by side, each with up to two sites over its first bytes. They are for tests of names
+        and ids."""
         symbols = []
         sections = [n for n in range(1, len(self.sections) + 1) if (n - 1) % len(self.modules) == self.module]
         step = self.choose([8, 0x10, 0x10, 0x20])
@@ -180,7 +181,7 @@ class Code(Layout, Types):
         return symbols
 
     def add_small_procedure(self, symbols, sections, number, step):
-        """Adds the procedure of a number, `step` bytes behind the one before."""
+        """Adds a procedure at `number` times `step`."""
         symbol = self.procedure()
         data = symbol["data"]
         data.update(section=self.choose(sections), offset=number * step,
@@ -200,7 +201,7 @@ class Code(Layout, Types):
         symbols.append(self.other())
 
     def make_publics(self):
-        """The global symbols, mostly public ones."""
+        """Makes the global symbols, which are mostly public symbols."""
         publics = []
         for _ in self.times(0, 9):
             symbol = {"raw_kind": self.choose([0x110E, 0x110E, 0x1009]),
@@ -220,7 +221,7 @@ class Code(Layout, Types):
     # --------------------------------------------------- records of a module
 
     def make_lines(self, symbols):
-        """The line program of a module; most entries are for starts of its symbols."""
+        """Makes the line program of a module. Most entries are for starts of its symbols."""
         starts = [(symbol["data"]["section"], symbol["data"]["offset"]) for symbol in symbols
                   if symbol.get("data") and "offset" in symbol["data"]]
         entries = []
@@ -233,7 +234,7 @@ class Code(Layout, Types):
         return {"entries": entries, "files": [self.choose(self.refs) for _ in self.times(0, 4)]}
 
     def line_rows(self, start):
-        """The line rows of a function; mostly they are in order."""
+        """Makes the line rows of a function. Mostly they are in order."""
         rows = []
         for _ in self.times(0, 4):
             offset = start + self.choose([0, 0, 4, 8, 8, 0x10, 0x18, 0x20, -8])
@@ -244,7 +245,7 @@ class Code(Layout, Types):
         return self.reading(0.08, rows)
 
     def make_inlinees(self, symbols):
-        """The inlinees of the sites, but for a few, and maybe one more."""
+        """Returns the inlinees of nearly all sites, and maybe one more."""
         used = [symbol["data"]["inlinee"] for symbol in symbols
                 if symbol.get("data") and symbol["data"]["kind"] == "InlineSite"]
         inlinees = [index for index in used if self.chance(0.97) and not self.broken(0.08)]
@@ -253,7 +254,7 @@ class Code(Layout, Types):
         return inlinees
 
     def make_imports(self):
-        """Imports, mostly of what the other modules export."""
+        """Makes imports, mostly of what the other modules export."""
         imports = []
         for _ in self.times(2, 3) if self.crossing else self.times(0, 1):
             other = self.random.randrange(max(len(self.modules), 1))
@@ -278,7 +279,7 @@ class Code(Layout, Types):
         return exports
 
     def make_info(self, module):
-        """The records of the module at a module index."""
+        """Makes the records of the module at a module index."""
         self.module = module
         symbols = self.make_symbols()
         inlinees = self.make_inlinees(symbols)

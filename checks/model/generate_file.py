@@ -1,14 +1,14 @@
-"""The JSON text of a random file: how it is written, and the faults that it gets as values and as bytes."""
+"""The JSON text of a random file: how it is written, and the faults in its values and its bytes."""
 import copy
 import json
 
 
 class Raw(str):
-    """A text that goes into the file as it is."""
+    """A text that is written to the file unchanged."""
 
 
 class Pairs(list):
-    """An object as a list of pairs, where a member may stand twice."""
+    """An object as a list of pairs, in which a member may occur twice."""
 
 
 ODD = [None, True, False, 0, 1, -1, 7, "", "x", "1", [], {}, [0], [None], {"error": 3}, {"error": None},
@@ -40,17 +40,17 @@ VERSIONS = [0, 2, 1.0, Raw("1.0"), Raw("1e0"), "1", True, [], {}, 2**64, Raw("-0
 
 
 def choose_copy(choices, values):
-    """A copy of one of the values, since a later change may change it in place."""
+    """Returns a copy of one of the values, because later changes may be made in place."""
     return copy.deepcopy(choices.choose(values))
 
 
 def is_branch(value):
-    """Whether a value is an array or an object that can be changed in place."""
+    """Returns whether a value is an array or an object that can be changed in place."""
     return isinstance(value, (dict, list)) and not isinstance(value, Pairs)
 
 
 def edges(tree):
-    """All (object or array, member or number) of a tree."""
+    """Yields each (object or array, member or index) of a tree."""
     if is_branch(tree):
         for at in sorted(tree) if isinstance(tree, dict) else range(len(tree)):
             yield tree, at
@@ -58,7 +58,7 @@ def edges(tree):
 
 
 def edge_by_name(choices, file):
-    """A member somewhere in the file; each name is as likely as any other."""
+    """Returns a member somewhere in the file. Each name has the same chance."""
     there = list(edges(file))
     name = choices.choose(sorted({at for _, at in there if isinstance(at, str)}))
     return choices.choose([(node, at) for node, at in there if at == name])
@@ -70,7 +70,7 @@ def type_and_id_items(file):
 
 
 def descend(choices, node, at):
-    """Goes down from an edge to one that is to be changed. None where a member was put in on the way."""
+    """Goes down from an edge to one that is to be changed. Returns None if it added a member on the way."""
     while True:
         value = node[at]
         if not is_branch(value) or not value or choices.chance(0.12):
@@ -84,7 +84,7 @@ def descend(choices, node, at):
 
 
 def replaced(tree, old, new):
-    """The tree with the object `old` (itself, not an equal one) replaced by `new`."""
+    """Returns the tree with the object `old` replaced by `new`. Objects that are only equal to `old` stay."""
     if tree is old:
         return new
     if isinstance(tree, dict):
@@ -95,7 +95,7 @@ def replaced(tree, old, new):
 
 
 def with_member_twice(choices, file, node, at):
-    """The file with a member of an object given twice, or three times."""
+    """Returns the file with a member of an object given two or three times."""
     pairs = [(at, choose_copy(choices, ODD))] + list(node.items())
     if choices.chance(0.5):
         pairs.append((at, choose_copy(choices, ODD)))
@@ -103,7 +103,7 @@ def with_member_twice(choices, file, node, at):
 
 
 def change_edge(choices, file, node, at):
-    """The file with the value at an edge gone, given twice, or another one."""
+    """Returns the file with the value at an edge removed, given twice, or replaced."""
     roll = choices.random.random()
     if roll < 0.25 and isinstance(node, dict):
         del node[at]
@@ -121,7 +121,7 @@ def change_edge(choices, file, node, at):
 
 
 def with_change(choices, file):
-    """The file with one value changed, somewhere; mostly in place."""
+    """Returns the file with one value changed, mostly in place."""
     if choices.chance(0.12):
         items = type_and_id_items(file)
         if items:
@@ -141,7 +141,7 @@ def with_change(choices, file):
 
 
 def with_changes(choices, file):
-    """The file with one to three values changed, and now and then with another version."""
+    """Returns the file with one to three values changed, and sometimes with another version."""
     for _ in range(choices.choose([1, 1, 1, 2, 3])):
         if isinstance(file, dict) and file:
             file = with_change(choices, file)
@@ -154,10 +154,9 @@ def with_changes(choices, file):
 
 
 def json_text(choices, value, style):
-    """A value as JSON, in the style "plain", "escaped" (with ASCII alone) or "spaced" (with white space).
+    """Formats a value as JSON. The style is "plain", "escaped" (ASCII only) or "spaced" (with white space).
 
-    Members keep their order in the plain style alone.
-    """
+    Only the plain style keeps the order of members."""
     def gap():
         return choices.choose(["", "", " ", "\n", "\t "]) if style == "spaced" else ""
 
@@ -184,7 +183,7 @@ OTHER_TEXTS = [b"", b" ", b"null", b"1", b"[]", b"{}", b'"x"', b"true", b"1.5", 
 
 
 def broken_text(choices, data):
-    """The bytes of a text with one change."""
+    """Returns the bytes of a text with one change."""
     kind = choices.choose([0, 1, 2, 3, 4, 5, 5, 5, 6, 7, 8])
     at = choices.random.randrange(len(data))
     if kind == 0:

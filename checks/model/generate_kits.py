@@ -1,4 +1,4 @@
-"""Random types that belong together, a kit at a time, and the indices by which they refer to one another."""
+"""Random types in kits, and the indices by which they refer to one another. The types of a kit belong together."""
 from choices import MISSING, Choices
 from primitives import PRIMITIVES
 from records import POINTER_MODES
@@ -11,7 +11,7 @@ class Kits(Choices):
     # -------------------------------------------------------------- indices
 
     def cross_index(self):
-        """An index that stands for one of another module."""
+        """Returns a cross-module index."""
         if self.chance(0.08):
             return 0x80000000 | self.choose([0x10000, 0x10000, 0x40000000, 0x7FFFFFFF, 0x300000])
         position = self.choose([0, 0, 0, 0, 0, 1, 1, 2])
@@ -26,12 +26,12 @@ class Kits(Choices):
         return self.choose(MISSING)
 
     def reference(self, role="any"):
-        """An index for a field: of the kind that the role wants, mostly."""
+        """Returns an index for a field, mostly of a type that fits the role."""
         if self.broken(0.03):
             return self.choose(MISSING)
         if self.chance(self.crossing):
             return self.cross_index()
-        if self.broken(0.05):  # anything, what comes later too: this makes circles
+        if self.broken(0.05):  # any index, also a later one: this makes circles
             return 0x1000 + self.random.randrange(len(self.types) + 4)
         there = self.by_role.get(role, [])
         if there and self.chance(0.93):
@@ -39,7 +39,7 @@ class Kits(Choices):
         return self.any_index()
 
     def function_type(self):
-        """An index for the type of a procedure."""
+        """Returns an index for the type of a procedure."""
         roll = self.random.random()
         if roll < 0.3:
             return 0
@@ -52,7 +52,7 @@ class Kits(Choices):
     # --------------------------------------------------------- single types
 
     def add(self, kind, *roles, **fields):
-        """Adds a type, now and then as one that can't be read; gives its index."""
+        """Adds a type, sometimes as one that can't be read. Returns its index."""
         index = self.next_index
         self.next_index += 1
         if self.broken(0.03):
@@ -71,11 +71,11 @@ class Kits(Choices):
         return index
 
     def show(self, index):
-        """Lets a type be an argument of a function more often."""
+        """Makes a type more likely as an argument of a function."""
         self.by_role.setdefault("shown", []).append(index)
 
     def aggregate_fields(self, name, forward):
-        """What a class and a union have in common."""
+        """Makes the fields that a class and a union share."""
         name = self.choose(CLASS_NAMES) if name is None else name
         fields = {"name": name, "size": self.choose([0, 1, 4, 8, 12, 16, 24, 2**64 - 1]),
                   "forward_reference": self.chance(0.25) if forward is None else forward}
@@ -111,7 +111,7 @@ class Kits(Choices):
                         rest=[self.choose([4, 48, 0]) for _ in range(self.choose([0, 0, 0, 1, 2]))])
 
     def add_named_value(self):
-        """A name of an enumeration with its value."""
+        """Adds a name of an enumeration with its value."""
         signed, bits = self.choose(["U", "I"]), self.choose(["8", "16", "32", "64"])
         low = -(2 ** (int(bits) - 1)) if signed == "I" else 0
         high = low + 2 ** int(bits) - 1
@@ -121,7 +121,7 @@ class Kits(Choices):
     # ----------------------------------------------------------------- kits
 
     def add_kit(self):
-        """Adds a few types that belong together."""
+        """Adds a kit."""
         roll = self.random.random()
         kits = [(0.22, self.add_function_kit), (0.47, self.add_method_kit), (0.62, self.add_array_kit),
                 (0.75, self.add_forward_kit), (0.79, self.add_sizeless_kit), (0.93, self.add_pointer_kit),
@@ -129,7 +129,7 @@ class Kits(Choices):
         next(add for below, add in kits if roll < below)()
 
     def add_function_kit(self):
-        """A function, maybe pointed to."""
+        """Adds a function, and maybe pointers to it."""
         arguments = self.add_arguments()
         returned = self.choose([None, 3, self.reference(), self.reference("object")])
         function = self.add("Procedure", "function", return_type=returned,
@@ -143,7 +143,7 @@ class Kits(Choices):
                 self.add_pointer(pointer)
 
     def add_method_kit(self):
-        """A method with its class, what `this` may be, and maybe a pointer to it."""
+        """Adds a method with its class, a type of `this`, and maybe a pointer to the method."""
         class_ = self.reference("class") if self.chance(0.5) else self.add_class()
         constant = self.add_modifier(class_)
         this = self.choose([
@@ -159,7 +159,7 @@ class Kits(Choices):
             self.add_pointer(method, "MemberFunction" if self.chance(0.7) else None)
 
     def add_array_kit(self):
-        """Arrays of arrays; now and then they are their own elements."""
+        """Adds arrays of arrays. Sometimes an array is an element of itself."""
         array = self.add_array(self.reference("object"))
         for _ in range(self.choose([0, 0, 1, 2])):
             array = self.add_array(array)
@@ -170,7 +170,7 @@ class Kits(Choices):
             self.add_pointer(array)
 
     def add_forward_kit(self):
-        """Forward references and definitions of one name, and an array that shows the size."""
+        """Adds forward references and definitions of one name, and an array whose length shows the size."""
         name = self.choose(["C", "S", "F"])
         order = self.choose([[True, False], [True, False], [True, True, False], [False, True], [True]])
         first = None
@@ -182,7 +182,7 @@ class Kits(Choices):
         self.show(self.add_array(first or self.reference("class")))
 
     def add_sizeless_kit(self):
-        """Arrays over a chain of enumerations and modifiers whose end seldom has a size."""
+        """Adds arrays over a chain of enumerations and modifiers. The end of the chain rarely has a size."""
         if self.chance(0.2):
             self.show(self.add_pointer(self.add_array(self.choose(MISSING))))
         over = self.add_enumeration(self.choose([
@@ -198,7 +198,7 @@ class Kits(Choices):
             self.show(self.add_array(over))
 
     def add_pointer_kit(self):
-        """Pointers and modifiers, one over the other; now and then in a circle."""
+        """Adds a chain of pointers and modifiers. Sometimes it is a circle."""
         over = self.reference("object")
         for _ in self.times(1, 3):
             over = self.add_modifier(over) if self.chance(0.4) else self.add_pointer(over)
@@ -208,7 +208,7 @@ class Kits(Choices):
                 item["underlying_type"] = over
 
     def add_small_kit(self):
-        """A type of a kind of its own, and maybe an array of it."""
+        """Adds a type of a rarer kind, and maybe an array of it."""
         which = self.random.randrange(4)
         if which == 0:
             enumeration = self.add_enumeration(self.reference())

@@ -6,7 +6,7 @@ GREATEST = 2**32 - 1
 
 class Layout(Choices):
     def make_layout(self):
-        """Makes the sections, the address map, and the few offsets at which most things lie."""
+        """Makes the sections, the address map, and a few offsets that most records use."""
         self.make_sections()
         self.make_address_map()
         steps = self.choose([4, 8, 16])
@@ -28,7 +28,7 @@ class Layout(Choices):
             self.sections.append(section)
 
     def make_address_map(self):
-        """The spans of the sections, with changes."""
+        """Makes the address map: the ranges of the sections, with changes."""
         self.address_map = [{name: section[name] for name in ("virtual_address", "virtual_size")}
                             for section in self.sections]
         if self.broken(0.15):
@@ -47,7 +47,7 @@ class Layout(Choices):
     # ------------------------------------------------------ section offsets
 
     def section(self):
-        """The number of a section, mostly of one with code."""
+        """Returns the number of a section, mostly of one with code."""
         if self.broken(0.05):
             return self.choose([0, len(self.sections) + 1, 0xFFFF, len(self.sections)])
         executable = [n for n, section in enumerate(self.sections, 1) if section["execute"]] or [1]
@@ -56,20 +56,20 @@ class Layout(Choices):
         return self.random.randint(1, len(self.sections))
 
     def offset(self):
-        """One of the file's few offsets, or a neighbour."""
+        """Returns one of the file's few offsets, or a neighbour of one."""
         offset = self.choose(self.offsets)
         if self.chance(0.08):
             offset += self.choose([1, 2, -1])
         return min(max(offset, 0), GREATEST)
 
     def length(self):
-        """The length of a procedure."""
+        """Returns a random length of a procedure."""
         if self.broken(0.05):
             return self.choose([0, 0xFFFFFFFF, 0xFFFFFF00, 0x1000])
         return self.choose([0, 1, 4, 8, 0x10, 0x10, 0x20, 0x20, 0x40, 0x40, 0x60, 0x80, 0x100])
 
     def place(self, module):
-        """A section and an offset, mostly in a contribution of the module."""
+        """Returns a section and an offset, mostly in a contribution of the module."""
         if self.spots.get(module) and self.chance(0.85):
             return self.choose(self.spots[module])
         return self.section(), self.offset()
@@ -77,7 +77,7 @@ class Layout(Choices):
     # -------------------------------------------------------- contributions
 
     def make_contributions(self):
-        """The contributions; `spots` are section offsets in those of each module."""
+        """Makes the contributions. `spots` are section offsets inside those of each module."""
         if self.mode != "mixed":
             found = [(number, 0, 0x100, (number - 1) % max(len(self.modules), 1))
                      for number in range(1, len(self.sections) + 1)]
@@ -100,7 +100,7 @@ class Layout(Choices):
         return self.random.randrange(max(modules, 1))
 
     def any_contribution(self):
-        """A contribution that heeds no other."""
+        """Makes a contribution without regard to the others."""
         section, offset = self.section(), self.offset()
         if self.broken(0.05):
             size = self.choose([0, 0xFFFFFFFF, 0xFFFFFF00, 0x1000])
@@ -109,25 +109,25 @@ class Layout(Choices):
         return section, offset, size, self.any_module()
 
     def ordered_contributions(self):
-        """Contributions side by side, with a change or two."""
+        """Makes contributions side by side, with a few changes."""
         found = []
         for number in range(1, len(self.sections) + 1):
             if self.chance(0.3):
                 found.append((number, 0, 0x100, self.any_module()))
             else:
                 found += self.cut_section(number)
-        if self.chance(0.3):  # modules take turns in a section, and come in any order
+        if self.chance(0.3):  # modules take turns in a section, or are in any order
             self.random.shuffle(found)
         if self.broken(0.25) and found:
             neighbour = self.choose(found)
             found.insert(self.random.randint(0, len(found)), self.odd_contribution(*neighbour))
-        if self.chance(0.06) and found:  # a later start below the first one
+        if self.chance(0.06) and found:  # a start that is greater than that of the next one
             section, offset, size, module = found[0]
             found[0:1] = [(section, offset + 0x20, size, module), (section, offset, size + 0x20, module)]
         return found
 
     def cut_section(self, number):
-        """Contributions from cut to cut of a section, with gaps and empty ones."""
+        """Cuts a section into contributions, with gaps and empty ones."""
         places = [0, 0x100] + list(range(0x10, 0x100, 0x10))
         cuts = sorted(self.random.sample(places, self.random.randint(2, 5)))
         if self.chance(0.5):
@@ -141,7 +141,7 @@ class Layout(Choices):
         return found
 
     def odd_contribution(self, section, offset, size, module):
-        """One that lies oddly to a contribution, or ends at about the greatest offset."""
+        """Makes a contribution that repeats, touches or overlaps this one, or that ends near the greatest offset."""
         return self.choose([
             (section, offset, size, module),
             (section, offset + size, 8, module),

@@ -1,7 +1,7 @@
-"""What is asked about a random file: the words of the runs, with addresses of which most find something."""
+"""The runs to make over a random file. Most of their addresses are in a function."""
 from generate_layout import Layout
 
-# Words that ask for nothing known, or for something at the edge of that. The file's name goes before them.
+# Invalid arguments, and unusual valid ones. The file's name goes before them.
 ODD_WORDS = [
     [], ["list", "10"], ["list", ""], ["names"], ["frames"], ["Names", "10"], ["lists"], [""],
     ["names", "0x"], ["frames", ""], ["names", "123456789"], ["frames", "0x123456789"],
@@ -9,19 +9,20 @@ ODD_WORDS = [
     ["names", "+1"], ["frames", "0x0x1"], ["names", "1000 "], ["names", "0", "0", "00000000"],
     ["frames", "x10"], ["names", "1_0"], ["frames", "１０"], ["names", "--help"], ["--help"],
     ["names", "0xABCDEFab"], ["frames", "ffffffff"], ["names", "list"]]
-# These are all words of a run: "!" says that the file's name doesn't go before them.
+# Here "!" means that the rest is all arguments of the run: the file's name doesn't go before them.
 ALL_WORDS = [["!"], ["!", "no.json", "names", "10"], ["!", ".", "list"], ["!", "no.json", "list", "1"],
              ["!", "", "names"], ["!", "no/x.json", "frames"], ["!", "list"], ["!", "names", "10", "list"]]
 
 
 def places_over(section, start, size):
-    """Section offsets in and around a range of bytes."""
+    """Returns section offsets in and around a range of bytes."""
     return [(section, start), (section, start), (section, start + size), (section, start + size - 1),
             (section, start + size // 2), (section, start - 1)]
 
 
 def symbol_places(symbols):
-    """Section offsets around what symbols show; rows of sites lie in the section of the code before them."""
+    """Returns section offsets around symbols and rows of sites. A row is in the section of the last symbol with code
+    before its site."""
     found = []
     section = None
     for symbol in symbols:
@@ -38,7 +39,7 @@ def symbol_places(symbols):
 
 
 def items_of(reading):
-    """The items of a reading; none of a stream that failed."""
+    """Returns the items of a list in a records file. A stream that failed has none."""
     return reading.get("items", []) if isinstance(reading, dict) else reading
 
 
@@ -49,7 +50,7 @@ def contributions_of(file):
 
 class Runs(Layout):
     def places(self, file):
-        """Section offsets of the records that an address may hit: (section, offset)."""
+        """Returns section offsets (section, offset) of records that an address may be in."""
         found = []
         for contribution in contributions_of(file):
             found += places_over(contribution["section"], contribution["offset"], contribution["size"])
@@ -62,7 +63,7 @@ class Runs(Layout):
         return found
 
     def is_covered(self, address, file):
-        """Whether a contribution lies over the address."""
+        """Returns whether a contribution covers the address."""
         for n, span in enumerate(self.address_map, 1):
             offset = address - span["virtual_address"]
             if 0 <= offset < span["virtual_size"]:
@@ -72,7 +73,7 @@ class Runs(Layout):
         return False
 
     def addresses_of_places(self, file):
-        """The addresses of the section offsets, by the address map and now and then by the sections."""
+        """Returns the addresses of these section offsets, by the address map and sometimes also by the sections."""
         found = []
         for section, offset in self.places(file):
             for sections in [self.address_map] + ([self.sections] if self.chance(0.1) else []):
@@ -81,7 +82,7 @@ class Runs(Layout):
         return [address for address in found if 0 <= address < 2**32] or [0x1000, 0x1010]
 
     def addresses(self, file, most):
-        """Addresses to ask for: up to so many, one of the edge, and some of them again."""
+        """Returns up to `most` addresses to look up, and maybe one at an edge. Some are repeated."""
         found = self.addresses_of_places(file)
         hits = [address for address in found if self.is_covered(address, file)] or found
         chosen = [self.choose(hits if self.chance(0.8) else found) for _ in self.times(1, most)]
@@ -96,7 +97,7 @@ class Runs(Layout):
         return [self.choose(forms).format(address) for address in self.addresses(file, most)]
 
     def runs(self, file):
-        """The words of each run."""
+        """Returns the arguments of each run."""
         words = self.address_words(file, 14)
         found = [["names", *words], ["frames", *words], ["list"]]
         for _ in range(3):  # an error ends a run, so some runs are short

@@ -1,4 +1,4 @@
-"""The random lists of types and of ids. Types come in kits, a few that belong together."""
+"""The random lists of types and of ids. Types are made in kits, which are a few types that belong together."""
 from choices import FUNCTION_NAMES
 from generate_kits import KIND_NAMES, Kits
 
@@ -14,7 +14,7 @@ INDEX_FIELDS = ["underlying_type", "element_type", "argument_list", "return_type
 
 class Types(Kits):
     def make_types(self):
-        """Makes the list of types; `by_role` has their indices by what they are good for."""
+        """Makes the list of types. `by_role` has their indices by the places where they fit."""
         self.types, self.type_indices, self.by_role, self.next_index = [], [], {}, 0x1000
         self.add_low_types()
         for _ in self.times(1, 9):
@@ -28,7 +28,7 @@ class Types(Kits):
         self.spoil_types()
 
     def add_low_types(self):
-        """Types that a compiler brings, with their usual indices."""
+        """Adds built-in types, with their usual indices."""
         self.low = self.random.sample(sorted(LOW), self.random.randint(3, len(LOW)))
         for index in self.low:
             primitive, indirection = LOW[index]
@@ -37,7 +37,7 @@ class Types(Kits):
         self.by_role["object"] = list(self.low)
 
     def make_circle(self, kit):
-        """Lets a type of a kit refer to one of the same kit, or to what shows it."""
+        """Makes a type of a kit refer to one of the same kit, or to a later type."""
         places = [(item, field) for item in kit for field in INDEX_FIELDS if item.get(field) is not None]
         places += [(item["arguments"], n) for item in kit for n in range(len(item.get("arguments", [])))]
         if not places:
@@ -51,7 +51,7 @@ class Types(Kits):
             self.show(item["index"])
 
     def add_shown_function(self):
-        """A function whose arguments are mostly the latest types."""
+        """Adds a function whose arguments are mostly the latest types."""
         count = self.choose([0, 1, 1, 2, 2, 3])
         arguments = self.add("ArgumentList", arguments=[self.shown_argument() for _ in range(count)])
         self.add("Procedure", "function", return_type=self.choose([None, 3, self.reference()]),
@@ -65,7 +65,7 @@ class Types(Kits):
         return self.choose(self.by_role["object"]) if self.chance(0.9) else self.reference()
 
     def spoil_types(self):
-        """Changes the order of types, has an index twice, or loses a type."""
+        """Changes the order of types, repeats an index, or removes a type."""
         if self.broken(0.1):
             self.random.shuffle(self.types)
         if self.broken(0.2):
@@ -94,7 +94,7 @@ class Types(Kits):
             self.random.shuffle(self.ids)
 
     def id_content(self, count):
-        """The kind of an id and its members; there will be `count` ids."""
+        """Returns the kind of an id and its members. There will be `count` ids."""
         kind = self.choose(ID_KINDS)
         if kind == "Function":
             return {"kind": kind, **self.function_id(count)}
@@ -108,7 +108,7 @@ class Types(Kits):
         return {"kind": kind, "kind_name": self.choose(KIND_NAMES)}
 
     def function_id(self, count):
-        """The members of a function of no class."""
+        """Returns the members of a function id that isn't a method."""
         function_type = self.function_type() if self.broken(0.2) else self.reference("function")
         members = {"function_type": function_type, "name": self.choose(FUNCTION_NAMES)}
         scope = self.scope(count)
@@ -117,7 +117,7 @@ class Types(Kits):
         return members
 
     def scope(self, count):
-        """The scope of the latest id: mostly an earlier one, or none."""
+        """Returns the scope of the latest id: mostly an earlier id, or none."""
         if self.broken(0.15):
             return self.choose([0x1000 + self.random.randrange(count)] * 3 + [0x3000, self.cross_index()])
         scopes = [None, None] + self.id_indices[:-1]
@@ -125,7 +125,7 @@ class Types(Kits):
         return self.choose(scopes + [crossing] if self.chance(0.2) else scopes)
 
     def make_circle_of_scopes(self):
-        """Two ids, each the scope of the other where it has one."""
+        """Makes each of two ids the scope of the other. Only function ids have a scope."""
         first, second = self.random.sample(self.ids, 2)
         for one, other in ((first, second), (second, first)):
             if one.get("kind") == "Function":

@@ -2,9 +2,9 @@
 
 Usage: model.py RECORDS (frames|names ADDRESS...|list)
 
-`run(words, get)` gives standard output, the status and standard error. `words` are the program's arguments;
-`get(name)` gives the bytes of a file, or None. Left out are memory that runs out, a standard output that can't be
-written, and arguments that aren't UTF-8.
+`run(words, get)` returns standard output, the status and standard error. `words` are the program's arguments.
+`get(name)` returns the bytes of a file, or None. The model leaves out three cases: memory runs out, standard output
+can't be written, and arguments are not UTF-8.
 """
 import re
 import sys
@@ -26,7 +26,7 @@ def span(start, end):
 
 
 def names_text(context, address):
-    """The line of an address under `names`."""
+    """Returns the line of `names` for an address."""
     found = context.find_function(address)
     if found is None:
         return f"{address:x} - no function found\n"
@@ -35,7 +35,7 @@ def names_text(context, address):
 
 
 def frames_text(context, address):
-    """The lines of an address under `frames`."""
+    """Returns the lines of `frames` for an address."""
     found = context.find_frames(address)
     if found is None:
         return f"{address:x} - no frames found\n"
@@ -48,7 +48,7 @@ def frames_text(context, address):
 
 
 def list_text(context, address):
-    """The line of the function at a start address under `list`; nothing where none is found there."""
+    """Returns the line of `list` for the function at a start address, or an empty text if there is none."""
     found = context.find_function(address)
     if found is None:
         return ""
@@ -60,7 +60,7 @@ TEXTS = {"names": names_text, "frames": frames_text, "list": list_text}
 
 
 def parse_words(words):
-    """(records, command, addresses), or None where the words ask for nothing known."""
+    """Returns (records, command, addresses), or None if the arguments are invalid."""
     if len(words) < 2:
         return None
     name, command, rest = words[0], words[1], words[2:]
@@ -74,12 +74,12 @@ def parse_words(words):
 
 
 def ended(status, text="", error=None):
-    """What a run leaves: standard output, the status, and the one line on standard error."""
+    """Returns the result of a run: standard output, the status, and the one line on standard error."""
     return lossy(text).encode(), status, lossy(f"{error}\n").encode() if error else b""
 
 
 def report(pdb, command, addresses):
-    """The run over records; an error ends it behind the texts of the addresses before."""
+    """Runs a command over records. An error ends the run after the texts of the addresses before."""
     texts = []
     try:
         context = Context(pdb)
@@ -92,12 +92,13 @@ def report(pdb, command, addresses):
 
 
 def module_path(records, name):
-    """The path of a module file: in the folder of the records file, or as it is where it begins with a slash."""
+    """Returns the path of a module file. It is relative to the folder of the records file, unless it starts with a
+    slash."""
     return name if name.startswith("/") else records[:records.rfind("/") + 1] + name
 
 
 def run(words, get):
-    """Standard output, the status and standard error of a run."""
+    """Returns standard output, the status and standard error of a run."""
     parsed = parse_words(words)
     if parsed is None:
         return ended(2, error=USAGE)
@@ -126,7 +127,7 @@ def read_file(name):
 
 
 def with_big_stack(call):
-    """What the call answers in a thread whose stack is large enough for deep recursion."""
+    """Returns the result of the call, which runs in a thread with a stack for deep recursion."""
     sys.setrecursionlimit(100_000)
     threading.stack_size(512 * 1024 * 1024)
     answers = []

@@ -1,4 +1,4 @@
-"""The types that a compiler brings: the size in bytes and the printed name of each primitive kind."""
+"""The built-in types: the size in bytes and the printed name of each primitive kind."""
 
 PRIMITIVES = {
     "NoType": (0, "<NoType>"),

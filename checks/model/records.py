@@ -1,7 +1,7 @@
 """Reads the bytes of a records file into records, or finds its first fault.
 
-A stream that failed is Failed(number), a reading is Reading(items, fault), and an object is a Record with the
-object's members. Readers take a value and its path, and give the record or raise a Fault.
+A stream that failed is Failed(number), a list is Reading(items, fault), and an object is a Record with the object's
+members. A reader takes a value and its path. It returns the record or raises a Fault.
 """
 import json
 import re
@@ -14,23 +14,23 @@ Failed = namedtuple("Failed", "number")
 Reading = namedtuple("Reading", "items fault")
 Unimplemented = namedtuple("Unimplemented", "kind")
 ABSENT = object()
-READING = Record(version=1)  # the version of the file that is read
-DEEPEST = 127  # levels to which a text may nest
+READING = Record(version=1)  # the version of the file that is being read
+DEEPEST = 127  # the greatest number of levels in a text
 
 
 class Fault(Exception):
-    """A fault of the file; its text is what the program prints after the file's name."""
+    """A fault of the file. Its text is what the program prints after the file's name."""
 
 
 class Float:
-    """A number that isn't taken as whole: with a point or an exponent, -0, or past 64 bits."""
+    """A number that doesn't count as whole: with a point or an exponent, -0, or beyond 64 bits."""
 
 
 # ---------------------------------------------------------------- JSON text
 
 
 def nesting(text):
-    """How deep the arrays and objects of a text nest."""
+    """Returns how deep the arrays and objects of a text nest."""
     depth = deepest = 0
     for token in re.findall(r'"(?:[^"\\]|\\.)*"?|[\[\]{}]', text, re.DOTALL):
         if token in "[{":
@@ -42,14 +42,14 @@ def nesting(text):
 
 
 def as_float(text):
-    """A number that isn't taken as whole. One past the greatest float makes the text no JSON."""
+    """Reads a number that doesn't count as whole. A number beyond the greatest double makes the text invalid."""
     if float(text) in (float("inf"), float("-inf")):
         raise ValueError(text)
     return Float()
 
 
 def as_int(text):
-    """A number without a point and an exponent."""
+    """Reads a number without a point and an exponent."""
     if text == "-0" or len(text) > 300:
         return as_float(text)
     number = int(text)
@@ -59,12 +59,12 @@ def as_int(text):
 
 
 def refuse(text):
-    """NaN and the infinities, which Python's reader takes, are no JSON."""
+    """Refuses NaN and the infinities, which Python's reader accepts but JSON doesn't have."""
     raise ValueError(text)
 
 
 def refuse_surrogates(value):
-    """A text with half of a surrogate pair is no JSON; encoding it raises a ValueError."""
+    """Refuses half a surrogate pair in a text: encoding it raises a ValueError."""
     if isinstance(value, str):
         value.encode("utf-8")
     elif isinstance(value, list):
@@ -76,7 +76,7 @@ def refuse_surrogates(value):
 
 
 def parse(data):
-    """The value of a JSON text."""
+    """Parses a JSON text."""
     try:
         text = data.decode("utf-8")
         if nesting(text) > DEEPEST:
@@ -124,14 +124,14 @@ def text(value, path):
 
 
 def name(value, path):
-    """A text, or in the second version its bytes. Bytes that are no UTF-8 stand as half surrogates."""
+    """Reads a text, or in version 2 also its bytes. Bytes that are not UTF-8 become half surrogates."""
     if READING.version == 2 and type(value) is list:
         return bytes(array(u8)(value, path)).decode("utf-8", "surrogateescape")
     return text(value, path)
 
 
 def lossy(text):
-    """A name as text, with a sign in the place of each piece that is no UTF-8."""
+    """Returns a name as text, with U+FFFD for each piece that is not UTF-8."""
     return text.encode("utf-8", "surrogateescape").decode("utf-8", "replace")
 
 
@@ -169,7 +169,7 @@ def array(reader):
 
 
 def reading(reader):
-    """Reads an array of items, or an object with the items and the fault behind them."""
+    """Reads an array of items, or an object with the items and the fault after them."""
     def read(value, path):
         if type(value) is dict:
             items = array(reader)(value.get("items", ABSENT), path + "/items")
@@ -180,7 +180,7 @@ def reading(reader):
 
 
 def stream(reader):
-    """Reads what the reader reads, or an object with the member `error`."""
+    """Reads a stream: what the reader reads, or an object with the member `error`."""
     def read(value, path):
         if type(value) is dict and "error" in value:
             return Failed(u32(value["error"], path + "/error"))
@@ -190,7 +190,7 @@ def stream(reader):
 
 
 def members(value, path, table):
-    """The members of an object, in the table's order."""
+    """Reads the members of an object, in the table's order."""
     return {name: reader(value.get(name, ABSENT), f"{path}/{name}") for name, reader in table}
 
 
@@ -204,7 +204,7 @@ def with_members(*table):
 
 
 def by_kind(tables):
-    """Reads an object whose member `kind` names the table of its other members."""
+    """Reads an object whose member `kind` selects the table of its other members."""
     def read(value, path):
         need_object(value, path)
         kind = one_of(tables)(value.get("kind", ABSENT), path + "/kind")
@@ -214,7 +214,7 @@ def by_kind(tables):
 
 
 def item(tables):
-    """Reads a type or an id: its index and its content, a Record, Failed or Unimplemented."""
+    """Reads a type or an id: its index and its content, which is a Record, Failed or Unimplemented."""
     def read(value, path):
         need_object(value, path)
         index = u32(value.get("index", ABSENT), path + "/index")
@@ -226,7 +226,7 @@ def item(tables):
 
 
 def item_error(error, path):
-    """Why a type or an id has no content."""
+    """Reads the reason why a type or an id has no content."""
     need_object(error, path)
     if "stream" in error:
         return Failed(u32(error["stream"], path + "/stream"))
@@ -269,7 +269,7 @@ VALUES |= {f"I{bits}": whole(-(2 ** (bits - 1)), 2 ** (bits - 1) - 1) for bits i
 
 
 def named_value(value, path):
-    """The value of a name of an enumeration."""
+    """Reads the value of a name of an enumeration."""
     need_object(value, path)
     kind = one_of(VALUES)(value.get("kind", ABSENT), path + "/kind")
     return Record(kind=kind, value=VALUES[kind](value.get("value", ABSENT), path + "/value"))
@@ -302,7 +302,7 @@ IDS = {
 
 
 def version(value, path):
-    """The file's version: absent, null, or one of the whole numbers 1 and 2."""
+    """Reads the file's version: absent, null, or one of the whole numbers 1 and 2."""
     if value is ABSENT or value is None:
         return 1
     if not isinstance(value, Float) and type(value) is not int:
@@ -326,12 +326,12 @@ FILE = [
 
 
 def names_file(value):
-    """Whether an element of `module_infos` stands for a module file."""
+    """Returns whether an element of `module_infos` names a module file."""
     return READING.version == 2 and type(value) is dict and "error" not in value and "file" in value
 
 
 def module_info(value, path):
-    """An element of `module_infos`, or the next module file where it stands for one."""
+    """Reads an element of `module_infos`, or the next module file if the element names one."""
     if not names_file(value):
         return or_null(stream(info))(value, path)
     try:
@@ -342,7 +342,7 @@ def module_info(value, path):
 
 
 def root(data):
-    """The value of a file's bytes; its version is that of what is read from then on."""
+    """Parses a file's bytes. All further reading follows the file's version."""
     value = parse(data)
     if type(value) is not dict:
         wanted("", "object")
@@ -351,7 +351,7 @@ def root(data):
 
 
 def module_files(data):
-    """The names of the module files that a file wants."""
+    """Returns the names of the module files that a file needs."""
     value = root(data)
     if READING.version == 1:
         return []
@@ -362,7 +362,7 @@ def module_files(data):
 
 
 def read_records(data, files=()):
-    """The records of the bytes of a file and of its module files."""
+    """Reads the bytes of a file and of its module files."""
     names = module_files(data)
     if len(names) != len(files):
         raise Fault(f"{len(names)} module files wanted, {len(files)} given")

@@ -1,8 +1,8 @@
 """Prints the signatures of functions and ids, under the default flags.
 
-Text goes to a list of pieces, `out`, so that what stands before an error is known. `open_indices` are the
-indices that are being printed: one that opens inside itself is refused as circular. `module` is the module
-index of the module that asks.
+Text is appended to a list of pieces, `out`, so that the text before an error is known. `open_indices` are the indices
+that are being printed. An index that is reached again while it is open is refused as circular. `module` is the module
+index of the module whose record is printed.
 """
 import re
 
@@ -16,7 +16,7 @@ POINTER_SIGNS = {"Pointer": "*", "LValueReference": "&", "Member": "::*", "Membe
 
 
 def opened(open_indices, index):
-    """The open indices with one more."""
+    """Returns the open indices with one more."""
     if index in open_indices:
         raise errors.circular(index)
     return open_indices | {index}
@@ -38,7 +38,8 @@ def primitive_text(primitive, constant):
 
 
 def namespace_text(name):
-    """A namespace's name. One without a name has `?A0x` and a hexadecimal number of 32 bits in its place."""
+    """Returns a namespace's name. An anonymous namespace has `?A0x` and a hexadecimal number of 32 bits instead of a
+    name."""
     match = re.fullmatch(r"\?A0x\+?([0-9a-fA-F]+)", name)
     if match and int(match[1], 16) < 2**32:
         note("anonymous namespace")
@@ -47,10 +48,9 @@ def namespace_text(name):
 
 
 def signs_text(pointers, space_first):
-    """The signs of a chain of pointers, the last of the chain first.
+    """Returns the signs of a chain of pointers, the last of the chain first.
 
-    `const` before a sign has a space before it where a sign stands there, or another text (`space_first`).
-    """
+    `const` before a sign follows a space if it comes after another sign or other text (`space_first`)."""
     out = []
     for pointer in reversed(pointers):
         if pointer.target_constant:
@@ -61,17 +61,17 @@ def signs_text(pointers, space_first):
 
 
 class Pointer:
-    """A pointer of a chain: its sign, whether it is constant, and whether what it points to is."""
+    """A pointer of a chain: its sign, whether it is constant, and whether its target is."""
 
     def __init__(self, mode, constant):
         self.mode, self.constant, self.target_constant = mode, constant, False
 
 
 class Formatter(TypeReader):
-    """Prints signatures; it remembers which parts of the records it met broken."""
+    """Prints signatures, and remembers which parts of the records it found broken."""
 
     def format_function(self, name, module, index):
-        """The signature of a function, by its name and the index of its type; 0 is no type."""
+        """Returns the signature of a function, from its name and the index of its type. Index 0 means no type."""
         out = []
         if index == 0:
             out.append(function_name(name))
@@ -87,7 +87,7 @@ class Formatter(TypeReader):
     # ------------------------------------------------------------ functions
 
     def print_function(self, module, name, index, out):
-        """A type that is no function's prints the name as it is."""
+        """Prints a function. If the type isn't a function's, prints only the name."""
         function = self.read(module, index)
         note(f"function of kind {function.kind}")
         if function.kind == "MemberFunction":
@@ -100,7 +100,7 @@ class Formatter(TypeReader):
             out.append(name)
 
     def print_returned(self, module, open_indices, function, out):
-        """The return type and a space; a constructor has none."""
+        """Prints the return type and a space. A constructor has none."""
         if not function.is_constructor and function.return_type is not None:
             self.print_index(module, open_indices, function.return_type, out)
             out.append(" ")
@@ -117,7 +117,7 @@ class Formatter(TypeReader):
             self.print_index(module, open_indices, index, out)
 
     def print_method_arguments(self, module, open_indices, method, const_allowed, out):
-        """`const` is said behind them where it is allowed there and the method is constant."""
+        """Prints the arguments of a method, and then `const` if the method is constant and `const` is allowed here."""
         open_indices = opened(open_indices, method.argument_list)
         arguments = self.read(module, method.argument_list)
         if arguments.kind != "ArgumentList":
@@ -130,11 +130,10 @@ class Formatter(TypeReader):
             out.append(" const")
 
     def this_argument(self, module, method):
-        """What is printed of `this`, as a list of none or one, and whether the method is constant.
+        """Returns what is printed for `this`, as a list of none or one, and whether the method is constant.
 
-        A pointer to the class, or to a modifier of the class, isn't printed; the method is as constant as the
-        modifier.
-        """
+        A pointer to the class, or to a modifier of the class, isn't printed. The method is constant if the modifier
+        is."""
         if method.this_pointer_type is None:
             return [], False
         this = self.read(module, method.this_pointer_type)
@@ -152,7 +151,7 @@ class Formatter(TypeReader):
     # ---------------------------------------------------------------- types
 
     def read_or_print(self, module, index, items, out):
-        """The content of an index, or None where a note on it was printed: missing, or of an unknown kind."""
+        """Returns the content of an index. If it is missing or of an unknown kind, prints a note and returns None."""
         try:
             return self.read(module, index, items)
         except Error as error:
@@ -167,13 +166,13 @@ class Formatter(TypeReader):
             return None
 
     def print_index(self, module, open_indices, index, out):
-        """A type that is printed by itself: its index is open from here on."""
+        """Prints a type by its index, which is open from here on."""
         content = self.read_or_print(module, index, self.program.types, out)
         if content is not None:
             self.print_type(module, opened(open_indices, index), content, out)
 
     def print_type(self, module, open_indices, content, out):
-        """A type that was read. A missing type in it ends its text there, with a note."""
+        """Prints a type that was read. If a type in it is missing, the text ends there, with a note."""
         try:
             self.print_by_kind(module, open_indices, content, out)
         except Error as error:
@@ -183,7 +182,7 @@ class Formatter(TypeReader):
             out.append(missing(error))
 
     def print_by_kind(self, module, open_indices, content, out):
-        """A procedure that stands behind no pointer has no closing parenthesis."""
+        """Prints a type by its kind. A procedure without a pointer before it has no closing parenthesis."""
         note(f"printed {content.kind}")
         if content.kind == "Primitive":
             out.append(primitive_text(content, False))
@@ -207,7 +206,7 @@ class Formatter(TypeReader):
             out.append(f"unhandled type /* {content.kind_name} */")
 
     def print_pointer(self, module, open_indices, pointer, constant, out):
-        """A chain of pointers, with at most one modifier behind each. Its indices stay open to its end."""
+        """Prints a chain of pointers, with at most one modifier after each. Its indices stay open to its end."""
         chain = [Pointer(pointer.mode, pointer.is_const or constant)]
         content = pointer
         while True:
@@ -227,7 +226,7 @@ class Formatter(TypeReader):
         self.print_chain_end(module, open_indices, content, chain, out)
 
     def print_chain_end(self, module, open_indices, content, chain, out):
-        """What a chain of pointers ends with, and their signs; functions have their return types here."""
+        """Prints the end of a chain of pointers, and their signs. Functions have their return types here."""
         if content.kind == "MemberFunction":
             self.print_returned(module, open_indices, content, out)
             out.append("(")
@@ -239,17 +238,16 @@ class Formatter(TypeReader):
             out.append("(" + signs_text(chain, False) + ")")
             self.print_procedure_arguments(module, open_indices, content, out)
         else:
-            kept_back = []  # where the type fails nothing of it is printed
+            kept_back = []  # if the type fails, none of its text is printed
             self.print_type(module, open_indices, content, kept_back)
             out.extend(kept_back)
             out.append(signs_text(chain, True))
 
     def print_array(self, module, open_indices, array, out):
-        """The type at the end of a chain of arrays, and the number of elements of each level, outer first.
+        """Prints the type at the end of a chain of arrays, and the number of elements of each level, outermost first.
 
-        An index that the chain comes by twice is refused as circular. Where an element has no bytes, their
-        number is left out.
-        """
+        An index that the chain reaches twice is refused as circular. If an element has size 0, its number of elements
+        is left out."""
         sizes, met = [], set()
         content = array
         while content.kind == "Array":
@@ -280,7 +278,7 @@ class Formatter(TypeReader):
     # ------------------------------------------------------------------ ids
 
     def print_id(self, module, index, chain, out):
-        """An id; `chain` are the ids of the chain of scopes up to here, this one among them."""
+        """Prints an id. `chain` has the ids of the chain of scopes up to this one, which is included."""
         content = self.read_or_print(module, index, self.program.ids, out)
         if content is None:
             return
@@ -297,7 +295,7 @@ class Formatter(TypeReader):
             out.append(f"<unhandled id scope {content.kind_name}>::")
 
     def print_method_id(self, module, method_id, out):
-        """A function of a class: of all indices that of its type alone is open in it."""
+        """Prints the id of a method. Only the index of its type is open in it."""
         open_indices = frozenset({method_id.function_type})
         method = self.read(module, method_id.function_type)
         if method.kind != "MemberFunction":
@@ -307,7 +305,8 @@ class Formatter(TypeReader):
         self.print_method_arguments(module, open_indices, method, True, out)
 
     def print_function_id(self, module, function_id, chain, out):
-        """A function of no class, behind the whole id of its scope; one that was met before is refused."""
+        """Prints the id of a function that isn't a method, after the whole id of its scope. A scope that is already in
+        the chain is refused."""
         procedure = self.read(module, function_id.function_type)
         if procedure.kind != "Procedure":
             raise errors.plain("FunctionIdIsNotProcedureType")
@@ -322,7 +321,7 @@ class Formatter(TypeReader):
         self.print_procedure_arguments(module, frozenset({function_id.function_type}), procedure, out)
 
     def print_string_list(self, module, string_list, out):
-        """Types in quotation marks; no index is open in it."""
+        """Prints types in quotation marks. No index is open in it."""
         out.append('"')
         for n, index in enumerate(string_list.substrings):
             if n:
