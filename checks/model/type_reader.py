@@ -1,31 +1,32 @@
-"""Reads types and ids by the indices that modules write, across modules too, and answers sizes of types."""
+"""Reads types and ids by the indices in a module's records, also across modules, and computes the sizes of types."""
 import errors
 from errors import Error, FailedParts, note
 from primitives import PRIMITIVES
 from records import Failed, Record, Unimplemented, lossy
 
 POINTER_SIZES = {"Amd64": 8, "Arm64": 8, "Ia64": 8, "RiscV64": 8, "RiscV128": 16}
-FIRST_CROSS_MODULE = 2**31  # from here on an index stands for one of another module
+FIRST_CROSS_MODULE = 2**31  # from here on, an index is a cross-module index
 
 
 def module_key(name):
-    """What the name of a module goes by: its text with the ASCII letters in lower case, and no others."""
+    """Returns the key of a module's name: its text with ASCII letters in lower case. Other letters stay."""
     return "".join(chr(ord(c) + 32) if "A" <= c <= "Z" else c for c in lossy(name))
 
 
 def aggregate_key(aggregate):
-    """What a class or a union goes by: its unique name, or else its name."""
+    """Returns the key of a class or a union: its unique name, or else its name."""
     return aggregate.name if aggregate.unique_name is None else aggregate.unique_name
 
 
 def is_definition(content, key):
-    """Whether an item is the class or the union of this key, and no forward reference."""
+    """Returns whether an item is the class or the union with this key, and not a forward reference."""
     return isinstance(content, Record) and content.kind in ("Class", "Union") and \
         not content.forward_reference and aggregate_key(content) == key
 
 
 def position_of(items, index):
-    """The position of the first item with an index. Where there is none, the fault behind the list counts."""
+    """Returns the position of the first item with an index. If there is none, raises the error of the list's fault, if
+    any."""
     for position, item in enumerate(items.items):
         if item.index == index:
             return position
@@ -35,7 +36,7 @@ def position_of(items, index):
 
 
 class TypeReader:
-    """Types and ids of a program. `module` is always the module index of the module that asks."""
+    """Types and ids of a program. `module` is always the module index of the module whose record has the index."""
 
     def __init__(self, program):
         self.program = program
@@ -45,7 +46,7 @@ class TypeReader:
     # -------------------------------------------------------------- indices
 
     def read_part(self, name, module):
-        """The imports or the exports of a module, as its records have them."""
+        """Returns the imports or the exports in the records of a module."""
         if module >= len(self.program.modules):
             raise Error("OutOfRangeModuleIndex", f"The module index {module} was out-of-range.")
         info = self.program.provided_info(module)
@@ -59,7 +60,7 @@ class TypeReader:
         return content
 
     def part(self, name, unsuccessful, module):
-        """The same; a part that failed before is unsuccessful."""
+        """Returns the same. If the part failed before, raises its `unsuccessful` error."""
         def read():
             try:
                 return self.read_part(name, module)
@@ -70,10 +71,10 @@ class TypeReader:
         return self.failed.ask((name, module), unsuccessful, read)
 
     def imported(self, module, index):
-        """What an index of another module stands for: the key of that module's name, and the number there.
+        """Returns what a cross-module index refers to: the reference of a module's name, and the local index in that
+        module.
 
-        Bits 20 to 30 are a position among the imports, bits 0 to 19 one among the numbers there.
-        """
+        Bits 20 to 30 are a position in the imports. Bits 0 to 19 are a position in the numbers of that import."""
         imports = self.part("imports", "ModuleImportsUnsuccessful", module)
         position, place = (index >> 20) & 0x7FF, index & 0xFFFFF
         if position >= len(imports) or place >= len(imports[position].locals):
@@ -81,7 +82,8 @@ class TypeReader:
         return imports[position].module, imports[position].locals[place]
 
     def module_under(self, reference):
-        """The module whose name stands under a key, of several the last. The case of ASCII doesn't count."""
+        """Returns the module whose name has a reference. If several modules have the name, it is the last. ASCII case
+        is ignored."""
         texts = [string.text for string in self.program.strings if string.ref == reference]
         if not texts:
             raise errors.string_not_found(reference)
@@ -92,7 +94,7 @@ class TypeReader:
         return named[-1]
 
     def resolve(self, module, index):
-        """The index that an index stands for; what an export gives isn't resolved again."""
+        """Resolves a cross-module index. The index from an export isn't resolved again."""
         if index < FIRST_CROSS_MODULE:
             return index
         if self.program.strings is None:
@@ -107,7 +109,7 @@ class TypeReader:
         return found[0]
 
     def read(self, module, index, items=None):
-        """The content of the first type, or the first of other items, that an index stands for."""
+        """Returns the content of the type with an index. With `items`, the item comes from that list."""
         items = items or self.program.types
         content = items.items[position_of(items, self.resolve(module, index))].content
         if isinstance(content, Failed):
@@ -119,7 +121,8 @@ class TypeReader:
     # ---------------------------------------------------------------- sizes
 
     def size(self, module, index):
-        """The size behind a chain of enumerations and modifiers; 0 for a circle and what can't be read."""
+        """Returns the size of a type, through a chain of enumerations and modifiers. It is 0 for a circle, and if a
+        type can't be read."""
         met = set()
         while index not in met:
             met.add(index)
@@ -135,7 +138,7 @@ class TypeReader:
         return 0
 
     def own_size(self, module, index, content):
-        """The size of a type that stands over no other. An array's is the last of its dimensions."""
+        """Returns the size of a type without an underlying type. An array's size is the last of its dimensions."""
         if content.kind == "Primitive":
             return self.pointer_size if content.indirection else PRIMITIVES[content.primitive][0]
         if content.kind in ("Class", "Union"):
@@ -151,7 +154,7 @@ class TypeReader:
         return 0
 
     def forward_size(self, module, index, forward):
-        """The size of the first definition behind a forward reference's entry, or else its own."""
+        """Returns the size of the first definition after a forward reference's entry, or else the entry's own size."""
         types = self.program.types
         start = position_of(types, self.resolve(module, index)) + 1
         for item in types.items[start:]:

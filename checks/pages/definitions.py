@@ -1,12 +1,14 @@
 #!/usr/bin/env python3
-"""Writes docs/DEFINITIONS.md with the lists of all definitions, from the comments in `specs`.
+"""Checks that each definition in `specs` has a comment, and writes docs/DEFINITIONS.md with the lists of all
+definitions.
 
-Usage: definitions.py         checks that each definition has a comment, and each crate with definitions a place in the page
-       definitions.py FILE    writes the page with the lists to FILE
+Usage: definitions.py         checks that each definition has a comment, and each crate with definitions a place in the
+page
+       definitions.py FILE    also writes the page with the lists to FILE
 
-The comment right above a public definition says it in one sentence. A mark in the page, `<!-- definitions of CRATE -->`,
-says where the list of a crate belongs: file by file in the order of `specs/Lib.antt`, with the first line of each file.
-The script fails if a definition has no comment or a crate with definitions no mark.
+The comment right above a public definition describes it in one sentence. A mark in the page, `<!-- definitions of CRATE
+-->`, is the place for the list of a crate. The list goes file by file in the order of `specs/Lib.antt`, and has the
+first line of each file. The script fails if a definition has no comment, or if a crate with definitions has no mark.
 """
 import pathlib
 import re
@@ -21,7 +23,7 @@ MARK = re.compile(r"<!-- definitions of (\w+) -->")
 
 
 def comment_above(lines, at):
-    """The comment that ends right above a line, or above how an operator binds, as one text."""
+    """Returns the comment that ends right above a line, as one text. An `infix` line may be in between."""
     found = []
     if at > 0 and lines[at - 1].startswith("infix"):
         at -= 1
@@ -32,7 +34,7 @@ def comment_above(lines, at):
 
 
 def name_of(line):
-    """The public name that a line of a file defines, or None."""
+    """Returns the public name that a line of a file defines, or None."""
     if not line or line[0].isspace() or line.startswith(("--", "use ", "pub mod", "mod ", "pub use")):
         return None
     before, _, _ = line.partition(" : ")
@@ -41,7 +43,7 @@ def name_of(line):
 
 
 def definitions(path):
-    """The public definitions of a file, each with its comment."""
+    """Returns the comment at the start of a file, and the comments of the file's public definitions by name."""
     lines = path.read_text(encoding="utf-8").split("\n")
     found = {}
     for at, line in enumerate(lines):
@@ -53,13 +55,13 @@ def definitions(path):
 
 
 def order_of(folder):
-    """The files of a folder of definitions in the order in which Lib.antt names them."""
+    """Returns the files in a folder of definitions, in the order of Lib.antt."""
     names = re.findall(r"^pub mod (\w+)", (folder / "Lib.antt").read_text(encoding="utf-8"), re.M)
     return [folder / f"{name}.antt" for name in names if (folder / f"{name}.antt").exists()]
 
 
 def made_list(crate, failures):
-    """The list of a crate's definitions."""
+    """Returns the list of a crate's definitions. Adds missing comments to `failures`."""
     lines = []
     for path in order_of(ROOT / "crates" / crate / "specs"):
         subject, found = definitions(path)

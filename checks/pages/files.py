@@ -1,12 +1,12 @@
 #!/usr/bin/env python3
-"""Makes docs/FILES.md, the list of all files of code, from each file's first line.
+"""Makes docs/FILES.md, the list of all code files, from each file's first line.
 
 Usage: files.py            checks whether the page is up to date
        files.py --write    writes the page
 
-The first line of each file in a crate's `src` is a comment, `//!` or `//`, with one whole sentence on what the file holds.
-The page has a paragraph for each crate. Crates that depend on others come before them. The script fails if the page is
-out of date, if a file has no such line, or if a crate has no row in the table of docs/ARCHITECTURE.md.
+The first line of each file in a crate's `src` is a comment, `//!` or `//`, with one whole sentence about the file's
+contents. The page has a paragraph for each crate. Crates that depend on others come before them. The script fails if
+the page is out of date, if a file has no such line, or if a crate has no row in the table of docs/ARCHITECTURE.md.
 """
 import pathlib
 import re
@@ -21,12 +21,12 @@ others come before them. [ARCHITECTURE.md](ARCHITECTURE.md) says what each crate
 
 """
 FIRST_LINE = re.compile(r"//!? (\S.*\.)")
-# A link to an item, which only the pages of `rt doc` can follow.
+# A link to an item. Only the pages of `rt doc` can follow it.
 ITEM_LINK = re.compile(r"\[([^]]+)\]\(crate::[^)]*\)")
 
 
 def crates():
-    """The crates with those that they stand on, in the order of crates.txt."""
+    """Returns the crates with their dependencies, in the order of crates.txt."""
     found = {}
     for line in (ROOT / "crates.txt").read_text(encoding="utf-8").splitlines():
         name, _, others = line.split("#")[0].partition(":")
@@ -36,7 +36,7 @@ def crates():
 
 
 def heights(found):
-    """How many crates of the repository stand under each."""
+    """Returns for each crate the length of its longest chain of dependencies in the repository."""
     known = {}
 
     def height(name):
@@ -48,14 +48,14 @@ def heights(found):
 
 
 def subject(path):
-    """What a file's first line says of it, or None."""
+    """Returns the sentence of a file's first line, or None."""
     first = path.read_text(encoding="utf-8").split("\n", 1)[0]
     matched = FIRST_LINE.fullmatch(first)
     return matched and ITEM_LINK.sub(r"\1", matched.group(1))
 
 
 def paragraph(name):
-    """The list of a crate's files, and the files without a first line that says what they hold."""
+    """Returns the list of a crate's files, and the files without such a first line."""
     source = ROOT / "crates" / name / "src"
     files = sorted(source.rglob("*.rt"), key=lambda path: (path.name not in ("lib.rt", "main.rt"), str(path)))
     subjects = {path.relative_to(source): subject(path) for path in files}
@@ -82,7 +82,7 @@ def main(words):
 
 
 def told(failures, counted):
-    """Prints the failures, or what was counted where there are none. Answers the exit status."""
+    """Prints the failures, or the count if there are none. Returns the exit status."""
     print("\n".join(failures) or counted)
     return 1 if failures else 0
 

@@ -1,10 +1,11 @@
 #!/usr/bin/env python3
-"""Draws lines of code, for a reader to place: in which crate, and in which of its files, would they look for each?
+"""Prints random lines of code, for a reader who then says which crate and file each one is in.
 
 Usage: lines.py COUNT SEED [--places]
 
-Lines of `src` are drawn from all crates but those of tests, each with the three lines around it. With
-docs/ARCHITECTURE.md and docs/FILES.md alone a reader should place most of them. `--places` prints where they stand, to compare.
+The lines are drawn from `src` of all crates except tests, and printed with three lines before and after. With only
+docs/ARCHITECTURE.md and docs/FILES.md, a reader should find the place of most of them. `--places` prints the places, to
+compare.
 """
 import pathlib
 import random
@@ -15,7 +16,8 @@ AROUND = 3
 
 
 def is_code(line):
-    """Whether a line says something: no blank, no comment, no import, no bracket alone."""
+    """Returns whether a line has code of its own: it isn't blank, a comment, an import, an attribute or a few
+    characters."""
     text = line.strip()
     return len(text) > 12 and not text.startswith(("//", "use ", "ghost use", "#[", "pub use", "mod ", "pub mod"))
 

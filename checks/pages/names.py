@@ -3,8 +3,8 @@
 
 Usage: names.py
 
-Test programs aren't looked at. Crates that do the same for other data, and so name alike, count as one. A name that
-stays has its reason in STAY. The status is 1 if any other name occurs twice.
+Test programs don't count. Crates that do the same for other data use the same names, and count as one. STAY has the
+reason for each name that may stay. The exit status is 1 if any other name occurs twice.
 """
 import collections
 import pathlib
@@ -13,7 +13,7 @@ import sys
 
 CRATES = pathlib.Path(__file__).resolve().parents[2] / "crates"
 
-# Crates that name their files and types alike, because they do the same for other data, and how.
+# Crates that use the same names for files and types, because they do the same for other data, and what they do.
 ALIKE = (
     (("pdb_records", "pdb_json_records", "pdb_export"), "the records; one crate reads them, one writes them"),
     (("pe_unwind", "pe_unwind_arm64"), "unwind info of two processors"),
@@ -28,7 +28,7 @@ STAY = {
 
 
 def crates_of(found):
-    """The crates that have a name, of crates that name alike the first alone."""
+    """Returns the crates that use a name. Of the crates in a row of ALIKE only the first counts."""
     for crates, _ in ALIKE:
         alike = [crate for crate in crates if crate in found]
         found = found - set(alike[1:])

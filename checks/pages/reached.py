@@ -1,10 +1,11 @@
 #!/usr/bin/env python3
-"""Lists the files and the crates of this repository that a program's `main` reaches by imports.
+"""Lists the files and crates of this repository that a program's `main` reaches by imports.
 
 Usage: reached.py [CRATE] [--files]
 
-CRATE is `pdb_symbolizer` where none is given. An import by name is followed to the file that declares the name, through what
-a crate passes on; one of a whole module to that module's file. Printed are the counts, and with `--files` each file.
+CRATE is `pdb_symbolizer` if not given. An import of a name is followed to the file that declares the name, through
+re-exports. An import of a module is followed to that module's file. The script prints the counts, and with `--files`
+each file.
 """
 import pathlib
 import re
@@ -15,7 +16,7 @@ USE = re.compile(r"^(?:pub(?:\(crate\))? )?use ((?:[^;{]|\{[^}]*\})+);", re.M)
 
 
 def paths_of(text):
-    """The paths that a `use` names, each as a list of words."""
+    """Yields the paths that a `use` names, each as a list of its parts."""
     text = re.sub(r"\s+", " ", text)
     front, brace, rest = text.partition("{")
     names = [name.strip() for name in rest.rstrip("} ").split(",")] if brace else [""]
@@ -25,25 +26,25 @@ def paths_of(text):
 
 
 def uses(file):
-    """The paths that a file imports."""
+    """Returns the paths that a file imports."""
     text = re.sub(r"^\s*(//|ghost use).*$", "", file.read_text(encoding="utf-8"), flags=re.M)
     return [path for found in USE.findall(text) for path in paths_of(found)]
 
 
 def root_of(crate):
-    """The root file of a crate."""
+    """Returns the root file of a crate."""
     source = CRATES / crate / "src"
     return source / "lib.rt" if (source / "lib.rt").exists() else source / "main.rt"
 
 
 def declares(file, name):
-    """Whether a file declares a name itself."""
+    """Returns whether a file declares a name itself."""
     pattern = rf"^\s*pub(?:\(crate\))? (?:const |static |fn |struct |enum |trait |type ){name}\b"
     return re.search(pattern, file.read_text(encoding="utf-8"), re.M) is not None
 
 
 def target(crate, path):
-    """The file that a path within a crate leads to."""
+    """Returns the files that a path within a crate leads to."""
     file = root_of(crate)
     for at, word in enumerate(path):
         module = CRATES / crate / "src" / f"{word}.rt"
@@ -60,7 +61,7 @@ def target(crate, path):
 
 
 def followed(crate, path):
-    """The files that an import of a file of a crate leads to."""
+    """Returns the files that an import in a crate leads to."""
     if path[0] in ("crate", "self"):
         return target(crate, path[1:])
     if (CRATES / path[0]).is_dir():
@@ -71,7 +72,7 @@ def followed(crate, path):
 
 
 def reached(crate):
-    """All files that the root of a crate reaches, itself among them."""
+    """Returns all files that the root file of a crate reaches, including itself."""
     seen, left = set(), [root_of(crate)]
     while left:
         file = left.pop()

@@ -1,5 +1,5 @@
 #!/usr/bin/env python3
-"""Looks whether the Rattle samples of docs/USING.md are whole files of crates/pdb_examples.
+"""Checks that the Rattle samples of docs/USING.md are whole files of crates/pdb_examples.
 
 Usage: samples.py
 """

@@ -1,12 +1,12 @@
 #!/usr/bin/env python3
-"""Writes records files with two faults in one object each, and prints what pdb_report says of them.
+"""Writes records files with two faults in one object each, and prints what pdb_report must say about them.
 
 Usage: fault_order.py FOLDER
 
-The objects and the order of their members are those of the tables in docs/FORMAT.md. For each object and each two
-members that follow one another there, FOLDER gets a records file in which both have a value of a wrong sort, and a run
-is printed whose fault is that of the first. One file more, unknown_members.json, has members that the format doesn't
-know in every object. crates/pdb_report_tests/data/faults is such a folder, and cases.txt beside it has the runs.
+The objects and the order of their members come from the tables in docs/FORMAT.md. For each object and each two
+consecutive members, FOLDER gets a records file in which both have a value of a wrong type. The script prints the run
+over it, with the fault of the first member. One more file, unknown_members.json, has unknown members in every object.
+crates/pdb_report_tests/data/faults is such a folder, and cases.txt in the folder above it has the runs.
 """
 import copy
 import json
@@ -16,13 +16,13 @@ import sys
 
 HERE = pathlib.Path(__file__).resolve().parent
 FORMAT = HERE.parents[1] / "docs" / "FORMAT.md"
-# A value that is lawful for no member, by what is wanted there.
+# For each type of value, one that no member of that type accepts.
 WRONG = {"number": "x", "text": 5, "boolean": 5, "array": 5, "object": 5}
 SYMBOL_KINDS = ["Public", "Procedure", "SeparatedCode", "Thunk", "InlineSite"]
 TYPE_KINDS = ["Primitive", "Class", "MemberFunction", "Procedure", "Pointer", "Array", "Union", "Enumeration",
               "Enumerate", "Modifier", "ArgumentList", "Other"]
 ID_KINDS = ["MemberFunction", "Function", "String", "StringList", "Other"]
-# What members hold, where it is no number.
+# The types of members. A member that isn't listed is a number.
 TEXTS = {"name", "unique_name", "kind_name", "machine_type", "class_kind", "primitive", "mode", "text", "kind"}
 BOOLEANS = {"execute", "indirection", "forward_reference", "is_constructor", "is_const", "constant"}
 ARRAYS = {"sections", "address_map", "global_symbols", "type_information", "id_information", "string_table",
@@ -32,7 +32,7 @@ OBJECTS = {"debug_information", "data", "line_program", "value"}
 
 
 def wanted(member, holder):
-    """The word for what a member of an object wants."""
+    """Returns the word that an error uses for the type of a member."""
     if member == "lines" and holder == "entry":
         return "array"
     for names, word in ((TEXTS, "text"), (BOOLEANS, "boolean"), (ARRAYS, "array"), (OBJECTS, "object")):
@@ -42,12 +42,12 @@ def wanted(member, holder):
 
 
 def members_of(cell):
-    """The members that a cell of a table names, in order: those outside parentheses."""
+    """Returns the members that a cell of a table names, in order. Names in parentheses don't count."""
     return re.findall(r"`([a-z_]+)`", re.sub(r"\([^()]*\)", "", re.sub(r"\([^()]*\)", "", cell)))
 
 
 def table(heading):
-    """The rows of the table of FORMAT.md with this heading, as members by the first cell."""
+    """Returns the table of FORMAT.md with this heading, as the second cell by the first."""
     rows, inside = {}, False
     for line in FORMAT.read_text().splitlines():
         if line.startswith("| " + heading):
@@ -61,7 +61,7 @@ def table(heading):
 
 
 def objects():
-    """Each object that has members, as its name, what names its variant, and its members in order."""
+    """Yields each object that has members: its name, its kind if it has variants, and its members in order."""
     for name, cell in table("Object").items():
         if name == "data":
             for part in cell.split("`Public`:")[1:]:
@@ -75,7 +75,7 @@ def objects():
 
 
 def lawful(member, holder):
-    """A lawful value of a member."""
+    """Returns a valid value of a member."""
     word = wanted(member, holder)
     named = {"class_kind": "Class", "primitive": "I32", "mode": "Pointer", "machine_type": "Amd64",
              "value": {"kind": "U8", "value": 1}, "line_program": {"entries": [], "files": []},
@@ -85,7 +85,7 @@ def lawful(member, holder):
 
 
 def instance(holder, kind, members):
-    """A lawful object."""
+    """Returns a valid object."""
     made = {member: lawful(member, holder) for member in members}
     if kind:
         made["kind"] = kind
@@ -93,7 +93,7 @@ def instance(holder, kind, members):
 
 
 def file_with(holder, made):
-    """A records file that holds this object, and the path to it."""
+    """Returns a records file that has this object, and the path to the object."""
     info = {"symbols": [], "line_program": {"entries": [], "files": []}, "inlinees": [], "imports": [], "exports": []}
     debug = {"machine_type": "Amd64", "modules": [], "section_contributions": []}
     file = {"sections": [], "address_map": [], "global_symbols": [], "debug_information": debug,
@@ -144,7 +144,7 @@ def file_with(holder, made):
 
 
 def pairs():
-    """For each two members that follow one another: a name, a records file, and its fault."""
+    """Yields, for each two consecutive members, a name, a records file, and its fault."""
     for holder, kind, members in objects():
         members = [member for member in members if (holder, member) not in (("file", "version"), ("info", "file"))]
         for first, second in zip(members, members[1:]):
@@ -157,7 +157,7 @@ def pairs():
 
 
 def with_unknown(value):
-    """A JSON value with a member that the format doesn't know first and last in every object."""
+    """Returns a JSON value in which every object has an unknown member at its start and another at its end."""
     if isinstance(value, dict):
         inner = {name: with_unknown(member) for name, member in value.items()}
         return {"unknown": [{"kind": 5}], **inner, "beyond": {"error": None}}
@@ -165,7 +165,7 @@ def with_unknown(value):
 
 
 def lawful_file():
-    """A records file with a lawful object of each kind."""
+    """Returns a records file with a valid object of each kind."""
     made = {}
     for holder, kind, members in objects():
         members = [member for member in members if (holder, member) not in (("file", "version"), ("info", "file"))]

@@ -1,10 +1,10 @@
 #!/usr/bin/env python3
-"""Warns of what is lawful in a records file and most likely not meant, each with its path.
+"""Warns of what is valid in a records file but probably a mistake, each with its path.
 
 Usage: likely_mistakes.py RECORDS ..      exit status 0: nothing to warn of, 1: something
 
-What the reader of records refuses is not looked for here: pdb_report says that. A file that refers to files of
-modules is read with them, beside it. No number of bytes is trusted: a text that is no JSON ends with one line.
+The script doesn't look for faults that make pdb_report refuse the file. Module files that a file refers to are read
+from its folder. If a text is not JSON, the script ends with one line.
 """
 import json
 import pathlib
@@ -31,7 +31,7 @@ MEMBERS = {name: set(members.split()) for name, members in MEMBERS.items()}
 
 
 def items_of(value):
-    """The elements of a reading or an array; none of a stream that failed, or of another value."""
+    """Returns the elements of an array or of a list with `items`. A stream that failed, or another value, has none."""
     if isinstance(value, dict):
         value = value.get("items", [])
     return value if isinstance(value, list) else []
@@ -45,7 +45,7 @@ class Checker:
         self.warnings.append(f"{path}: {text}")
 
     def members(self, path, value, kind):
-        """Warns of members that nothing reads. Answers whether the value is an object."""
+        """Warns of members that nothing reads. Returns whether the value is an object."""
         if not isinstance(value, dict):
             return False
         for name in value:
@@ -99,7 +99,7 @@ class Checker:
             self.members(f"/debug_information/modules/{number}", module, "module")
 
     def place(self, path, section, offset):
-        """Warns of a section offset in no section, or past its end."""
+        """Warns of a section offset in no section, or past its section's end."""
         if not isinstance(section, int) or not isinstance(offset, int):
             return
         if not 1 <= section <= len(self.sections):
@@ -192,7 +192,7 @@ class Checker:
                     self.warn(f"{path}/data/rows/{at}/file_index", "no file has this position in files")
 
     def end(self, path, symbols, place, end):
-        """The position of the symbol that closes one."""
+        """Warns of a symbol whose `end` isn't the position of a later symbol."""
         if isinstance(end, int) and not place < end < len(symbols):
             self.warn(path, "no later symbol of the list has this position: it closes nothing")
 
@@ -203,7 +203,7 @@ class Checker:
             self.warn(f"{path}/data", "starts in no contribution of its module, so no address finds it")
 
     def rows(self, path, symbols, place, data):
-        """Rows of the sites of a procedure that lie outside it."""
+        """Warns of rows of inline sites that are outside their procedure."""
         start, end = data.get("offset", 0), data.get("offset", 0) + data.get("len", 0)
         last = data.get("end") if isinstance(data.get("end"), int) else place
         for at in range(place + 1, min(last, len(symbols))):

@@ -1,14 +1,15 @@
 #!/usr/bin/env python3
-"""Has a browser's page of another origin ask the symbol server of examples/symbol-server, and compares what it shows.
+"""Has a browser's page of another origin use the symbol server of examples/symbol-server, and compares what it shows.
 
 Usage: browser.py PROGRAM [CHROMIUM]
 
-PROGRAM is a built pdb_symbolizer; CHROMIUM is `chromium` if none is given (Debian's package chromium). The server
-answers for a copy of shapes.pdb. A second server, at another port and so of another origin, has a page whose script
-posts a request three times: as profiler.firefox.com does, as JSON, before which a browser asks by OPTIONS whether it
-may, and over several lines. The page must show three times the answer of a `pdb_symbolizer --symbolicate` alone. A
-fourth request is invalid, and the page must be shown the reason. A server that allows only another origin must show
-the page nothing.
+PROGRAM is a built pdb_symbolizer. CHROMIUM is `chromium` if not given (Debian's package chromium). The server answers
+for a copy of shapes.pdb. A second server, at another port and so of another origin, has a page with a script.
+
+The script posts a request three times: as profiler.firefox.com does, as JSON, and as JSON over several lines. Before
+JSON, a browser asks by OPTIONS for permission. The page must show the answer of a `pdb_symbolizer --symbolicate` alone
+three times. A fourth request is invalid, and the page must show the reason. If the server allows only another origin,
+the page must show nothing.
 """
 import html
 import http.server
@@ -48,7 +49,7 @@ INVALID = '{"memoryMap":[],"stacks":[[[0,1]]]}'
 
 
 class Page(http.server.BaseHTTPRequestHandler):
-    """The page of the other origin."""
+    """Serves the page of the other origin."""
 
     def do_GET(self):
         self.send_response(200 if self.path == "/" else 404)
@@ -57,11 +58,11 @@ class Page(http.server.BaseHTTPRequestHandler):
         self.wfile.write(self.server.page if self.path == "/" else b"")
 
     def log_message(self, *_):
-        """Nothing is logged."""
+        """Logs nothing."""
 
 
 def shown_by(chromium, server, asked, folder):
-    """What a page shows after it posted each of these requests, as pairs of type and body."""
+    """Returns what a page shows after it posted each of these requests, which are pairs of type and body."""
     places = "".join(f'<pre id="answer{number}"></pre>' for number in range(len(asked)))
     with http.server.ThreadingHTTPServer(("127.0.0.1", 0), Page) as other:
         other.page = (PAGE % (json.dumps(asked), server.address, places)).encode()

@@ -3,15 +3,16 @@
 
 Usage: dask_scaling.py PROGRAM [--frames N] [--files N] [--seed N] [--workers N ..] [--sample N] [--without-dask]
 
-PROGRAM is a built pdb_symbolizer. A store of 200 PDB files is made, and a file of requests with stacks of 50 frames.
-With 1, 2 and 4 workers, `limberlime.symbolicate_bag` answers the stacks of the file into text files, and with as many
-jobs `parallel --pipe -k` has PROGRAM answer the requests into a file. Printed is how long each takes, without the start
-of Dask's workers. The answers of parallel must be those of one process, byte for byte. Of 200 stacks, drawn by the
-seed, the answers of Dask must be those of a process for each request. All others must be the same with any number of
-workers.
+PROGRAM is a built pdb_symbolizer. The script makes a store of 200 PDB files, and a file of requests with stacks of 50
+frames. With 1, 2 and 4 workers, `limberlime.symbolicate_bag` answers the stacks of the file into text files. With as
+many jobs, `parallel --pipe -k` has PROGRAM answer the requests into a file. The script prints how long each takes,
+without the start of Dask's workers.
 
-The shared library is the one in LIMBERLIME_LIBRARY, or the installed one. Needed are Debian's packages parallel and
-python3-distributed, and so Debian's own Python: run `/usr/bin/python3 dask_scaling.py PROGRAM`.
+The answers of parallel must be those of one process, byte for byte. For 200 stacks, drawn by the seed, the answers of
+Dask must be those of a process for each request. All answers of Dask must be the same for each number of workers.
+
+The shared library is the one in LIMBERLIME_LIBRARY, or the installed one. The script needs Debian's packages parallel
+and python3-distributed, and so Debian's own Python: run `/usr/bin/python3 dask_scaling.py PROGRAM`.
 """
 import argparse
 import json
@@ -40,13 +41,13 @@ def arguments():
 
 
 def stack_of(line):
-    """The stack of a request."""
+    """Returns the stack of a request."""
     request = json.loads(line)
     return [(*request["memoryMap"][module], offset) for module, offset in request["stacks"][0]]
 
 
 def answers_by_dask(path, store, folder, workers):
-    """The lines that Dask writes, and how long it takes."""
+    """Returns the lines that Dask writes, and the seconds that it takes."""
     import dask.bag
     import dask.distributed
 
@@ -63,7 +64,7 @@ def answers_by_dask(path, store, folder, workers):
 
 
 def wanted_of(program, store, line):
-    """What Dask is to write of a request, from the answer of a process that gets it alone."""
+    """Returns what Dask must write for a request, from the answer of a process that gets only this request."""
     request, result = json.loads(line), json.loads(alone(program, store, line))["results"][0]
     stack = []
     for (module, offset), frame in zip(request["stacks"][0], result["stacks"][0], strict=True):
@@ -74,12 +75,12 @@ def wanted_of(program, store, line):
 
 
 def place_of(frame):
-    """Function, file and line."""
+    """Returns function, file and line."""
     return [frame.get("function"), frame.get("file"), frame.get("line")]
 
 
 def dask_faults(given, path, store, folder):
-    """Times Dask, and compares its answers."""
+    """Measures Dask, and compares its answers."""
     sys.path.insert(0, str(PYTHON))
     os.environ["PYTHONPATH"] = os.pathsep.join([str(PYTHON), *filter(None, [os.environ.get("PYTHONPATH")])])
     requests, faults, first = path.read_bytes().splitlines(), [], None
@@ -101,7 +102,7 @@ def dask_faults(given, path, store, folder):
 
 
 def parallel_faults(given, path, store, folder):
-    """Times parallel, and compares its answers with those of one process."""
+    """Measures parallel, and compares its answers with those of one process."""
     words = [given.program, "--symbolicate-lines", "--pdb-dir", str(store)]
     runs = [("one process", words)]
     runs += [(f"parallel, {jobs} jobs", ["parallel", "--will-cite", "--pipe", "-k", "--block", str(BLOCK),

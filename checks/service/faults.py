@@ -3,12 +3,16 @@
 
 Usage: faults.py PROGRAM [RUNS [REPEATS]]
 
-PROGRAM is a built pdb_symbolizer. One process `--symbolicate-lines` is asked all the time. Between two requests a PDB
-file is cut, overwritten, replaced by one of another debug id and the same size, or removed, and then put back. Each
-answer must be that of a `pdb_symbolizer --symbolicate` alone, run before or after the change; which one is printed.
-Answers over another file must not change. Lines of 16 MiB and of a byte more are asked, and a process whose reader
-stops, or goes away. RUNS times (10) a process gets SIGTERM: what it wrote must be the beginning of the answers. The
-last processes get 20 requests REPEATS times (100).
+PROGRAM is a built pdb_symbolizer.
+
+  - Changed files: one process `--symbolicate-lines` gets requests all the time. Between two requests a PDB file is cut,
+    overwritten, removed, or replaced by one with another debug id and the same size. Then it is put back. Each answer
+    must be that of a `pdb_symbolizer --symbolicate` alone, run before or after the change. The script prints which one
+    it was. Answers over another file must not change.
+  - Long lines: a process gets lines of 16 MiB and of one byte more.
+  - Readers: the reader of a process stops for a while, or closes the pipe. These processes get 20 requests REPEATS
+    times (100).
+  - Signals: RUNS times (10) a process gets SIGTERM. What it wrote must be a beginning of the answers.
 """
 import json
 import os
@@ -30,12 +34,12 @@ TOO_LONG = b'{"error":"a line longer than 16777216 bytes"}\n'
 OFFSETS = [0x1000, 0x1025, 0x10e4, 0x1136, 0x1160, 0x1191, 0x1264]
 OTHER_GUID = "0123456789ABCDEF0123456789ABCDEF1"
 SECONDS = 300
-# How much the memory of a process may grow while nobody reads what it writes.
+# The most bytes by which a process may grow while nobody reads its output.
 MOST_GROWTH = 32 << 20
 
 
 def request(name, identity, offsets):
-    """A request for offsets in a PDB file."""
+    """Returns a request for offsets in a PDB file."""
     value = {"memoryMap": [[name, identity]], "stacks": [[[0, offset] for offset in offsets]]}
     return json.dumps(value, separators=(",", ":")).encode() + b"\n"
 
@@ -48,7 +52,7 @@ class Process:
                                         stdout=subprocess.PIPE, stderr=subprocess.DEVNULL)
 
     def ask(self, line):
-        """The answer to a line, or as much of it as came."""
+        """Returns the answer to a line, or the part of it that came."""
         try:
             self.process.stdin.write(line)
             self.process.stdin.flush()
@@ -57,7 +61,7 @@ class Process:
         return self.process.stdout.readline()
 
     def end(self):
-        """Ends it, and returns its exit status."""
+        """Ends the process, and returns its exit status."""
         self.process.stdin.close()
         status = self.process.wait(SECONDS)
         self.process.stdout.close()
@@ -68,23 +72,23 @@ class Process:
 
 
 def cut(path, _):
-    """Cuts the file where it is."""
+    """Truncates the file to half."""
     os.truncate(path, path.stat().st_size // 2)
 
 
 def cut_anew(path, _):
-    """Puts the first half of the file in its place."""
+    """Replaces the file by a new one with its first half."""
     put(path, path.read_bytes()[:path.stat().st_size // 2])
 
 
 def overwrite(path, other):
-    """Overwrites the file where it is by another one of the same size."""
+    """Overwrites the file in place by another one of the same size."""
     with open(path, "r+b") as file:
         file.write(other)
 
 
 def replace(path, other):
-    """Puts another file of the same size in its place."""
+    """Replaces the file by another one of the same size."""
     put(path, other)
 
 
@@ -94,20 +98,20 @@ def remove(path, _):
 
 
 def fill_with_zeros(path, _):
-    """Overwrites the file by zeros."""
+    """Overwrites the file in place by zeros."""
     with open(path, "r+b") as file:
         file.write(bytes(path.stat().st_size))
 
 
 def put(path, data):
-    """Puts a file in the place of another one at once."""
+    """Replaces a file atomically."""
     beside = path.with_name("beside")
     beside.write_bytes(data)
     beside.rename(path)
 
 
 class Changes:
-    """A folder with the PDB file that changes and one that doesn't, and the process that is asked."""
+    """A folder with a PDB file that changes and one that doesn't, and the process that answers over them."""
 
     def __init__(self, program, folder):
         self.program, self.folder = program, folder
@@ -125,11 +129,11 @@ class Changes:
         self.process = Process(program, folder)
 
     def alone(self, line):
-        """The answer of a process alone."""
+        """Returns the answer of a process that gets only this request."""
         return alone(self.program, self.folder, line)
 
     def told(self, when, before, after):
-        """Asks, and says of each answer whether it is the one before a change, after it, or wrong."""
+        """Sends all requests, and prints whether each answer is the one before a change, the one after it, or wrong."""
         faults, shown = [], []
         for what, line in self.lines.items():
             answer = self.process.ask(line)
@@ -142,7 +146,8 @@ class Changes:
         return faults
 
     def change(self, deed, known):
-        """Changes the file, asks, puts it back, and asks. Before it, all is asked, or one offset of a new process."""
+        """Changes the file, sends all requests, puts the file back, and sends them again. If `known`, the process has
+        answered all of them before the change. Otherwise a new process has looked up only one offset."""
         before = {what: self.alone(line) for what, line in self.lines.items()}
         if known:
             faults = self.told("before", before, before)
@@ -160,7 +165,7 @@ class Changes:
 
 
 def changed_files(program, folder):
-    """PDB files that change between requests."""
+    """Checks PDB files that change between requests."""
     changes, faults = Changes(program, folder), []
     for deed in (cut, cut_anew, overwrite, replace, remove, fill_with_zeros):
         faults += changes.change(deed, True) + changes.change(deed, False)
@@ -172,7 +177,7 @@ def changed_files(program, folder):
 
 
 def long_lines(program, folder):
-    """Lines as long as may be, and too long."""
+    """Checks lines of the greatest length, and lines that are too long."""
     shutil.copy(SHAPES, folder)
     line = request(SHAPES.name, debug_id(program, SHAPES), OFFSETS)
     wanted, process, faults = alone(program, folder, line), Process(program, folder), []
@@ -191,12 +196,12 @@ def long_lines(program, folder):
 
 
 def memory(process):
-    """How much memory a process has, in bytes."""
+    """Returns the resident memory of a process, in bytes."""
     return int(pathlib.Path(f"/proc/{process.pid}/statm").read_text().split()[1]) * resource.getpagesize()
 
 
 def write_until_blocked(process, text):
-    """Writes into a process that nobody reads from, until it takes no more. Returns how much it took."""
+    """Writes to a process whose output nobody reads, until it takes no more. Returns how many bytes it took."""
     os.set_blocking(process.stdin.fileno(), False)
     taken = 0
     while taken < len(text) and select.select([], [process.stdin], [], 5)[1]:
@@ -206,13 +211,13 @@ def write_until_blocked(process, text):
 
 
 def write_rest(process, text):
-    """Writes what is left, and ends the input."""
+    """Writes the rest of the input, and closes it."""
     process.stdin.write(text)
     process.stdin.close()
 
 
 def reader_that_stops(program, store, lines, wanted):
-    """Nobody reads for some time; then all is read."""
+    """Checks a reader that stops for a while and then reads everything."""
     process, text = Process(program, store).process, b"".join(lines)
     process.stdin.write(lines[0])
     process.stdin.flush()
@@ -233,7 +238,7 @@ def reader_that_stops(program, store, lines, wanted):
 
 
 def reader_that_leaves(program, store, path, wanted):
-    """The reader goes away after an answer."""
+    """Checks a reader that closes the pipe after one answer."""
     with open(path, "rb") as file:
         process = subprocess.Popen([program, "--symbolicate-lines", "--pdb-dir", store], stdin=file,
                                    stdout=subprocess.PIPE, stderr=subprocess.DEVNULL)
@@ -245,7 +250,7 @@ def reader_that_leaves(program, store, path, wanted):
 
 
 def undisturbed(program, store, path, wanted):
-    """A process that nothing happens to, and how long it takes."""
+    """Checks a process without any disturbance, and returns the seconds that it takes."""
     start = time.monotonic()
     with open(path, "rb") as file:
         run = subprocess.run([program, "--symbolicate-lines", "--pdb-dir", store], stdin=file, stdout=subprocess.PIPE,
@@ -256,7 +261,7 @@ def undisturbed(program, store, path, wanted):
 
 
 def ended_by_a_signal(program, store, path, wanted, seconds):
-    """SIGTERM in the middle."""
+    """Checks a process that gets SIGTERM after some seconds."""
     with open(path, "rb") as file, tempfile.TemporaryFile() as out:
         process = subprocess.Popen([program, "--symbolicate-lines", "--pdb-dir", store], stdin=file, stdout=out,
                                    stderr=subprocess.DEVNULL)
@@ -272,7 +277,7 @@ def ended_by_a_signal(program, store, path, wanted, seconds):
 
 
 def readers_and_signals(program, folder, runs, repeats):
-    """Readers that stop or leave, and processes that are ended."""
+    """Checks readers that stop or leave, and processes that get SIGTERM."""
     store, path = folder / "store", folder / "requests"
     lines = list(requests(make_store(program, store, 4), 20, 50))
     wanted, lines = b"".join(alone(program, store, line) for line in lines) * repeats, lines * repeats

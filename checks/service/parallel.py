@@ -1,13 +1,14 @@
 #!/usr/bin/env python3
-"""Has GNU parallel answer requests on all processors and on two hosts, and compares the answers with one process's.
+"""Has GNU parallel answer requests on all processors and on two hosts, and compares the answers with those of one
+process.
 
 Usage: parallel.py PROGRAM [--requests N] [--frames N] [--files N] [--seed N] [--jobs N] [--block SIZE] [--one-host]
 
-PROGRAM is a built pdb_symbolizer. 2,000 requests of 50 frames over 200 PDB files are made. `parallel --pipe -k` passes
-them in blocks of 100k to as many jobs as there are processors. Then it does so on two hosts by ssh: two sshd that this
-script starts at ports of the loopback interface, with keys and settings in a temporary folder. The exact commands and
-the times are printed. The answers must be those of one process, byte for byte and in order, and both hosts must have
-had jobs. Needed are Debian's packages parallel and openssh-server; with --one-host the second isn't.
+PROGRAM is a built pdb_symbolizer. The script makes 2,000 requests of 50 frames over 200 PDB files. `parallel --pipe -k`
+passes them in blocks of 100k to one job per processor. Then it does so on two hosts by ssh. The hosts are two sshd that
+this script starts at ports of the loopback interface, with keys and settings in a temporary folder. The script prints
+the exact commands and the times. The answers must be those of one process, byte for byte and in order. Both hosts must
+have had jobs. The script needs Debian's packages parallel and, without --one-host, openssh-server.
 """
 import argparse
 import contextlib
@@ -60,13 +61,13 @@ def arguments():
 
 
 def free_port():
-    """A port that nobody listens at."""
+    """Returns a port on which nothing listens."""
     with socket.create_server(("127.0.0.1", 0)) as server:
         return server.getsockname()[1]
 
 
 def wait_for(port):
-    """Waits until somebody listens at a port."""
+    """Waits until something listens on a port."""
     end = time.monotonic() + SECONDS
     while True:
         try:
@@ -79,7 +80,7 @@ def wait_for(port):
 
 @contextlib.contextmanager
 def hosts(folder, names):
-    """Two hosts: an sshd for each. Gives the settings by which ssh finds them."""
+    """Runs an sshd for each host. Yields the settings file by which ssh finds them."""
     for key in ("host_key", "user_key"):
         subprocess.run(["ssh-keygen", "-q", "-t", "ed25519", "-N", "", "-f", folder / key], check=True)
     if os.geteuid() == 0:
@@ -101,7 +102,7 @@ def hosts(folder, names):
 
 
 def timed(words, path, answers):
-    """Runs a command over the requests, prints it and how long it took, and gives its exit status."""
+    """Runs a command over the requests, and prints it with its time. Returns its exit status."""
     print(f"{shlex.join(words)} <{path} >{answers}")
     start = time.monotonic()
     with open(path, "rb") as file, open(answers, "wb") as out:
@@ -111,7 +112,7 @@ def timed(words, path, answers):
 
 
 def differences(what, status, wanted, answers):
-    """Whether answers are others than those of one process."""
+    """Returns a message if the answers are not those of one process."""
     found = answers.read_bytes()
     same = [one == other for one, other in zip(found.splitlines(), wanted.splitlines())]
     if found == wanted and status == 0:

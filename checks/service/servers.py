@@ -1,4 +1,4 @@
-"""The symbol server of examples/symbol-server, started and ended for the checks in this folder."""
+"""Starts and ends the symbol server of examples/symbol-server, for the checks in this folder."""
 import http.client
 import pathlib
 import signal
@@ -11,8 +11,8 @@ SECONDS = 60
 
 
 class SymbolServer:
-    """A server over a folder, at a port that the system chose. Afterwards `log` has what it and its process wrote on
-    standard error, and `status` its exit status."""
+    """A server over a folder, on a port that the system chose. After its end, `log` has the standard error of the
+    server and of its pdb_symbolizer, and `status` has its exit status."""
 
     def __init__(self, program, store, *options):
         self._words = [sys.executable, str(SERVER), "--port", "0", "--program", str(program), *options, str(store)]
@@ -34,12 +34,12 @@ class SymbolServer:
         self._log.close()
 
     def child(self):
-        """The number of the process behind the server."""
+        """Returns the ids of the server's child processes."""
         found = pathlib.Path(f"/proc/{self.process.pid}/task").glob("*/children")
         return [int(word) for path in found for word in path.read_text().split()]
 
     def post(self, body, path="/symbolicate/v5", method="POST", headers=None):
-        """The status and the body of an answer, on a connection of its own."""
+        """Returns the status and the body of an answer, over a new connection."""
         connection = http.client.HTTPConnection("127.0.0.1", self.port, timeout=SECONDS)
         try:
             connection.request(method, path, body, headers or {})

@@ -1,7 +1,7 @@
 """Symbol stores of many PDB files, and requests of the symbolication API over them, for the checks in this folder.
 
-A store has copies of small PDB files of this repository, each with a name and a GUID of its own. Files are drawn by a
-Zipf distribution: the file at place k is drawn 1/k times as often as the first one.
+A store has copies of small PDB files of this repository, each with its own name and GUID. Files are drawn by a Zipf
+distribution: the k-th file is drawn 1/k times as often as the first one.
 """
 import itertools
 import json
@@ -15,28 +15,28 @@ DATA = pathlib.Path(__file__).resolve().parents[2] / "crates" / "pdb_symbolizer_
 # PDB files with code and without broken records.
 NAMES = ("shapes", "source", "parts_of_other_modules", "overlapping_sections", "arm64")
 SMALL = [DATA / f"{name}.pdb" for name in NAMES]
-# Of so many offsets one lies anywhere near the code, and not in a function.
+# One of this many offsets is drawn from the first 64 KiB of the program, so it is mostly outside of functions.
 ELSEWHERE = 20
 SHAPES = DATA / "shapes.pdb"
 SHAPES_REQUEST = {"memoryMap": [["shapes.pdb", "6B32B94164959A524C4C44205044422E1"]], "stacks": [[[0, 4406]]]}
 
-# A PDB file of a store: its name, its debug id, its path, and the first address and the size of each function.
+# A PDB file of a store: its name, its debug id, its path, and the start and the size of each function.
 Stored = namedtuple("Stored", "name debug_id path functions")
 
 
 def printed(program, *words, text=None):
-    """What a program prints, as bytes. `text` is its standard input."""
+    """Returns the standard output of a program, as bytes. `text` is its standard input."""
     run = subprocess.run([str(program), *map(str, words)], input=text, stdout=subprocess.PIPE, check=True)
     return run.stdout
 
 
 def debug_id(program, path):
-    """The debug id of a PDB file."""
+    """Returns the debug id of a PDB file."""
     return printed(program, "--show-id", path).decode().rsplit(maxsplit=2)[0].rsplit(maxsplit=1)[1]
 
 
 def functions(program, path):
-    """The first address and the size of each function of a PDB file."""
+    """Returns the start and the size of each function of a PDB file."""
     lines = printed(program, "--dump-syms", path).decode().splitlines()
     words = [line.split() for line in lines if line.startswith("FUNC ")]
     words = [[word for word in line if word != "m"] for line in words]
@@ -44,7 +44,8 @@ def functions(program, path):
 
 
 def with_guid(data, old, new):
-    """The bytes of a PDB file with another GUID. Blocks that are no longer in use may have the old one too."""
+    """Returns the bytes of a PDB file with another GUID. All copies of the old GUID are replaced, because unused blocks
+    may have it too."""
     old, new = (uuid.UUID(text[:32]).bytes_le for text in (old, new))
     if old not in data:
         raise ValueError("the file's GUID isn't in it")
@@ -52,7 +53,7 @@ def with_guid(data, old, new):
 
 
 def make_store(program, folder, count, seed=1, sources=None):
-    """Fills a folder with so many PDB files, as symbol servers have them: NAME/DEBUGID/NAME."""
+    """Fills a folder with `count` PDB files in the layout of symbol servers: NAME/DEBUGID/NAME."""
     chance, stored = random.Random(seed), []
     known = [(path, debug_id(program, path), functions(program, path)) for path in map(pathlib.Path, sources or SMALL)]
     for number in range(count):
@@ -68,7 +69,7 @@ def make_store(program, folder, count, seed=1, sources=None):
 
 
 def offset(chance, stored):
-    """An offset in a PDB file's program, mostly in a function."""
+    """Returns an offset in a PDB file's program, mostly in a function."""
     if not chance.randrange(ELSEWHERE):
         return chance.randrange(0x10000)
     start, size = chance.choice(stored.functions)
@@ -76,7 +77,7 @@ def offset(chance, stored):
 
 
 def requests(stored, count, frames, seed=1):
-    """So many requests with a stack of so many frames each, as lines of bytes. Each frame's file is drawn."""
+    """Yields `count` requests as lines of bytes. Each has one stack of `frames` frames, whose files are drawn."""
     chance = random.Random(seed)
     weights = list(itertools.accumulate(1 / place for place in range(1, len(stored) + 1)))
     for _ in range(count):
@@ -94,13 +95,13 @@ def write_requests(path, stored, count, frames, seed=1):
 
 
 def alone(program, store, line):
-    """The answer of a process that gets one request alone."""
+    """Returns the answer of a process that gets only this request."""
     return subprocess.run([str(program), "--symbolicate", "--pdb-dir", str(store)], input=line,
                           stdout=subprocess.PIPE, stderr=subprocess.DEVNULL).stdout
 
 
 def report(faults, shown=10):
-    """Prints what was wrong, and last how much. Returns the exit status."""
+    """Prints what was wrong, and then the number of faults. Returns the exit status."""
     print("".join(f"wrong: {fault}\n" for fault in faults[:shown]), end="")
     print(f"{len(faults)} wrong")
     return 1 if faults else 0

@@ -1,11 +1,12 @@
 #!/usr/bin/env python3
-"""Asks the symbol server of examples/symbol-server without a browser, and reports every answer that is wrong.
+"""Sends requests to the symbol server of examples/symbol-server without a browser, and reports every wrong answer.
 
 Usage: symbol_server.py PROGRAM [CLIENTS]
 
-PROGRAM is a built pdb_symbolizer. So many clients (8) ask at once, each on connections of its own, and each answer is
-compared byte for byte with that of a `pdb_symbolizer --symbolicate` alone. Further requests are invalid, as long as may
-be, too long, or cut; the process behind the server is killed; and the server is ended while it answers.
+PROGRAM is a built pdb_symbolizer. CLIENTS clients (8) send requests at the same time, each request over a new
+connection. Each answer must be that of a `pdb_symbolizer --symbolicate` alone, byte for byte. Further requests are
+invalid, of the greatest length, too long, or cut. Then the script kills the server's pdb_symbolizer, and last it ends
+the server during an answer.
 """
 import concurrent.futures
 import json
@@ -27,24 +28,24 @@ EACH = 10
 
 
 def request(*offsets):
-    """The text of a request for offsets in shapes.pdb."""
+    """Returns the text of a request for offsets in shapes.pdb."""
     return json.dumps({"memoryMap": MODULES, "stacks": [[[0, offset] for offset in offsets]]}).encode()
 
 
 def padded(length):
-    """The text of a request of this length, by a member that is ignored."""
+    """Returns the text of a request with this length. A member that is ignored fills it up."""
     text = json.dumps(SHAPES_REQUEST, separators=(",", ":"))[:-1] + ',"more":"'
     return (text + "x" * (length - len(text) - 2) + '"}').encode()
 
 
 def differences(answers, wanted):
-    """Answers that are others than wanted, by what was asked."""
+    """Returns the answers that are not the expected ones."""
     return [f"{what}: {answers[what][0]} {answers[what][1][:200]!r}"
             for what in wanted if answers[what] != wanted[what]]
 
 
 def clients_at_once(program, store, server, clients):
-    """Many clients ask at once."""
+    """Checks many clients at the same time."""
     wanted = {offset: (200, alone(program, store, request(offset))) for offset in range(0x1000, 0x1290, 0x40)}
 
     def ask(number):
@@ -57,7 +58,7 @@ def clients_at_once(program, store, server, clients):
 
 
 def kinds_of_requests(program, store, server):
-    """One request of each kind."""
+    """Checks one request of each kind."""
     good = alone(program, store, json.dumps(SHAPES_REQUEST).encode())
     too_long = (413, b'{"error": "a request longer than 16777216 bytes"}\n')
     no_json = (400, b'{"error": "not a JSON text"}\n')
@@ -85,7 +86,7 @@ def kinds_of_requests(program, store, server):
 
 
 def clients_that_stop(server):
-    """A client that says more than it sends, and one that says nothing, don't keep others waiting."""
+    """Checks that others don't wait for a client that announces more than it sends, or for one that sends nothing."""
     before = server.post(request(4406))
     with socket.create_connection(("127.0.0.1", server.port)) as half, \
             socket.create_connection(("127.0.0.1", server.port)):
@@ -96,7 +97,7 @@ def clients_that_stop(server):
 
 
 def killed_process(server):
-    """The process behind the server is killed, and another one answers."""
+    """Checks that after the server's pdb_symbolizer is killed, a new one answers."""
     before, children = server.post(request(4406)), server.child()
     for child in children:
         os.kill(child, signal.SIGKILL)
@@ -107,7 +108,7 @@ def killed_process(server):
 
 
 def no_process(store):
-    """A program that ends at once is answered by 502, again and again."""
+    """Checks that the answer is 502, each time, if the program ends at once."""
     with SymbolServer("/bin/true", store) as server:
         answers = [server.post(request(4406)) for _ in range(3)]
     right = answers == [(502, b'{"error": "pdb_symbolizer ended"}\n')] * 3 and server.status == 0
@@ -115,7 +116,7 @@ def no_process(store):
 
 
 def slow_request(program, store):
-    """A request that takes half a second or more, and its answer."""
+    """Returns a request that takes half a second or more, and its answer."""
     frames, seconds = 1000, 0
     while seconds < 0.5 and frames < 1_000_000:
         frames *= 2
@@ -127,7 +128,7 @@ def slow_request(program, store):
 
 
 def ended_while_answering(program, store):
-    """SIGTERM comes while the server answers: the answer is sent, the server ends, and so does the process."""
+    """Checks SIGTERM during an answer: the server still sends the answer, and then the server and its process end."""
     body, wanted = slow_request(program, store)
     with SymbolServer(program, store) as server, concurrent.futures.ThreadPoolExecutor(1) as pool:
         children, asked = server.child(), pool.submit(server.post, body)
