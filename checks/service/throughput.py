@@ -4,11 +4,12 @@
 Usage: throughput.py PROGRAM [--requests N] [--frames N] [--files N] [--seed N] [--sample N] [--pdb PDB ..]
        [-- OPTION ..]
 
-PROGRAM is a built pdb_symbolizer. A store of 200 PDB files is made, and 100,000 requests with a stack of 50 frames.
-Each frame's file is drawn by a Zipf distribution. One process `--symbolicate-lines` answers all requests. Printed are
-the time, the requests and frames per second, the CPU time and the peak memory. Of 200 requests, drawn by the seed, the
-answers are compared byte for byte with those of a process for each. OPTION is a further option of pdb_symbolizer, such
-as `--cache-size=0`, and goes to that one process alone. With `--pdb`, the copies are made of these PDB files.
+PROGRAM is a built pdb_symbolizer. The script makes a store of 200 PDB files, and 100,000 requests with a stack of 50
+frames. Each frame's file is drawn by a Zipf distribution. One process `--symbolicate-lines` answers all requests. The
+script prints the time, the requests and frames per second, the CPU time and the peak memory. For 200 requests, drawn by
+the seed, the answers must be those of a process for each request, byte for byte. OPTION is a further option of
+pdb_symbolizer, such as `--cache-size=0`. Only the measured process gets it. With `--pdb`, the store has copies of these
+PDB files.
 """
 import argparse
 import contextlib
@@ -42,21 +43,21 @@ def arguments():
 
 
 def peak_memory(process):
-    """The most memory that a process has had so far, in MiB."""
+    """Returns the peak resident memory of a process so far, in MiB."""
     status = pathlib.Path(f"/proc/{process.pid}/status").read_text()
     return int(status.split("VmHWM:")[1].split()[0]) / 1024
 
 
 def feed(process, path):
-    """Writes requests into a process that may end."""
+    """Writes requests to a process that may end early."""
     with open(path, "rb") as file, contextlib.suppress(BrokenPipeError):
         shutil.copyfileobj(file, process.stdin)
         process.stdin.flush()
 
 
 def answers_of(words, path, count, sample):
-    """Runs one process over a file of requests: how many lines and bytes it wrote, the lines of the sample, its exit
-    status, the time and the CPU time that it took, and its peak memory."""
+    """Runs one process over a file of requests. Returns the number of lines and bytes that it wrote, the lines of the
+    sample, its exit status, its time and CPU time, and its peak memory."""
     lines, length, kept, peak, start = 0, 0, {}, 0, time.monotonic()
     process = subprocess.Popen(words, stdin=subprocess.PIPE, stdout=subprocess.PIPE)
     feeder = threading.Thread(target=feed, args=(process, path))
@@ -66,7 +67,7 @@ def answers_of(words, path, count, sample):
             kept[lines] = line
         lines, length = lines + 1, length + len(line)
         if lines == count:
-            # The process waits for the end of its input, which comes only now.
+            # The process waits for the end of its input, which comes only now. Until then its peak memory can be read.
             seconds, peak = time.monotonic() - start, peak_memory(process)
             feeder.join()
             process.stdin.close()
@@ -78,7 +79,7 @@ def answers_of(words, path, count, sample):
 
 
 def sample_faults(program, store, path, sample, kept):
-    """Where answers of the sample are others than those of a process for each request."""
+    """Returns the answers of the sample that are not those of a process for each request."""
     faults = []
     with open(path, "rb") as file:
         for number, line in enumerate(file):

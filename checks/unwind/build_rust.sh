@@ -1,7 +1,8 @@
 #!/bin/sh
 # Builds collections.rs over Rust's own core and alloc, as a Windows program for x64 that imports nothing.
 #
-# Usage: build_rust.sh OUT LEVEL     LEVEL is the level of optimisation (0, 2, s). Needs Debian's rustc, rust-src, clang-22
+# Usage: build_rust.sh OUT LEVEL     LEVEL is the level of optimisation (0, 2, s). Needs Debian's rustc, rust-src,
+# clang-22
 #                                    and lld-22. Writes OUT/collections.exe and OUT/collections.pdb
 set -eu
 out=$1 level=$2
@@ -17,9 +18,9 @@ compile -Z force-unstable-if-unmarked --crate-name core --crate-type rlib "$libr
 compile --crate-name compiler_builtins --crate-type rlib "$here/builtins.rs"
 compile -Z force-unstable-if-unmarked --crate-name alloc --crate-type rlib "$library/alloc/src/lib.rs"
 compile --crate-name collections --crate-type staticlib "$here/collections.rs"
-# Nothing may be pushed by what is called to touch the pages of a large frame.
+# Code with a large frame calls __chkstk to touch its pages. It must not push anything, so here it only returns.
 printf '.globl __chkstk\n__chkstk:\nret\n.globl __CxxFrameHandler3\n__CxxFrameHandler3:\nret\n' >"$out/start.s"
 clang-22 --target=x86_64-pc-windows-msvc -c "$out/start.s" -o "$out/start.o"
-# Divisions of 128-bit numbers and lengths of C texts aren't there, and nothing that runs calls them.
+# The functions for 128-bit division and for lengths of C strings are missing. No code that runs calls them.
 lld-link-22 /entry:start /nodefaultlib /subsystem:console /debug /force:unresolved \
   /out:"$out/collections.exe" /pdb:"$out/collections.pdb" "$out/collections.lib" "$out/start.o"

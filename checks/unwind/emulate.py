@@ -1,16 +1,16 @@
 #!/usr/bin/env python3
-"""Runs an x64 program in an emulator, and compares the stack of each instruction with what its symbol file says.
+"""Runs an x64 program in an emulator, and compares the stack at each instruction with what its symbol file says.
 
 Usage: emulate.py PROGRAM SYMBOLS COUNT     needs Debian's python3-unicorn, so run it by /usr/bin/python3
 
-PROGRAM is an x64 EXE that imports nothing. SYMBOLS is its Breakpad symbol file with `STACK CFI` records. The program runs
-from its entry point, up to COUNT instructions. The script keeps a list of its own of the calls that are open: where each
-return address is on the stack, and what the registers rbx, rbp, rsi, rdi, rsp and r12 to r15 were before the call. Before
-each instruction it evaluates the rules of the symbol file there. The address of the caller's frame, the return address
-and each of these registers must be those of the list. A register without a rule keeps its value.
+PROGRAM is an x64 EXE that imports nothing. SYMBOLS is its Breakpad symbol file with `STACK CFI` records. The program
+runs from its entry point, for at most COUNT instructions. The script keeps its own list of open calls: where each
+return address is on the stack, and the registers rbx, rbp, rsi, rdi, rsp and r12 to r15 before the call. Before each
+instruction it evaluates the rules of the symbol file there. The address of the caller's frame, the return address and
+each of these registers must be those of the list. A register without a rule keeps its value.
 
-It prints how many instructions were compared, how many were in code that no record covers, and the first wrong ones, and
-ends with status 1 if any was wrong.
+The script prints how many instructions were compared, how many were in code without a record, and the first wrong ones.
+The exit status is 1 if any was wrong.
 """
 import bisect
 import struct
@@ -28,7 +28,7 @@ MASK = (1 << 64) - 1
 
 
 class Program:
-    """The sections of a program, and where it starts."""
+    """The sections of a program, and its entry point."""
 
     def __init__(self, data):
         headers = struct.unpack_from("<I", data, 0x3C)[0]
@@ -45,7 +45,7 @@ class Program:
 
 
 class Records:
-    """The STACK CFI records of a symbol file: each with its address, its size, its rules and the later changes."""
+    """The STACK CFI records of a symbol file. Each has its address, its size, and its rules with their changes."""
 
     def __init__(self, lines):
         self.records = []
@@ -72,7 +72,7 @@ class Records:
         return rules
 
     def at(self, rva):
-        """The rules at an address, or None if no record covers it."""
+        """Returns the rules at an address, or None if no record covers it."""
         position = bisect.bisect_right(self.starts, rva) - 1
         if position < 0 or rva >= self.records[position][0] + self.records[position][1]:
             return None
@@ -85,7 +85,7 @@ class Records:
 
 
 def evaluate(words, values, load):
-    """The value of an expression in postfix form."""
+    """Evaluates an expression in postfix form."""
     stack = []
     for word in words:
         if word == "+":
@@ -105,14 +105,14 @@ def evaluate(words, values, load):
 
 
 def is_call(code):
-    """Whether an instruction is a call."""
+    """Returns whether an instruction is a call."""
     if code[0] & 0xF0 == 0x40:
         code = code[1:]
     return code[0] == 0xE8 or (code[0] == 0xFF and (code[1] >> 3) & 7 == 2)
 
 
 def is_return(code):
-    """Whether an instruction is a return."""
+    """Returns whether an instruction is a return."""
     return code[0] in (0xC3, 0xC2) or code[:2] == b"\xf3\xc3"
 
 
@@ -148,7 +148,7 @@ class Run:
             return 0xDEAD_DEAD_DEAD_DEAD
 
     def before_call(self):
-        """What the caller's registers are before a call."""
+        """Remembers the caller's registers before a call."""
         values = self.registers()
         self.pending = {name: values[name] for name in KEPT + ["rsp"]}
 
@@ -171,7 +171,7 @@ class Run:
             self.returning = True
 
     def compare(self, address):
-        """Compares the caller that the records say with the caller of the list."""
+        """Compares the caller according to the records with the last open call."""
         rules = self.records.at(address - self.program.base)
         if rules is None:
             self.uncovered += 1

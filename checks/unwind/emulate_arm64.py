@@ -1,16 +1,16 @@
 #!/usr/bin/env python3
-"""Runs an ARM64 program in an emulator, and compares the stack of each instruction with what its symbol file says.
+"""Runs an ARM64 program in an emulator, and compares the stack at each instruction with what its symbol file says.
 
 Usage: emulate_arm64.py PROGRAM SYMBOLS COUNT     needs Debian's python3-unicorn, so run it by /usr/bin/python3
 
-PROGRAM is an ARM64 EXE that imports nothing. SYMBOLS is its Breakpad symbol file with `STACK CFI` records. The program runs
-from its entry point, up to COUNT instructions. The script keeps a list of its own of the calls that are open: what the
-registers x19 to x29 and sp were before each call, and the address behind it. Before each instruction it evaluates the rules
-of the symbol file there. The address of the caller's frame, the return address, x30, which has the return address once the
-function has returned, and each of these registers must be those of the list. A register without a rule keeps its value.
+PROGRAM is an ARM64 EXE that imports nothing. SYMBOLS is its Breakpad symbol file with `STACK CFI` records. The program
+runs from its entry point, for at most COUNT instructions. The script keeps its own list of open calls: the registers
+x19 to x29 and sp before the call, and the return address. Before each instruction it evaluates the rules of the symbol
+file there. The address of the caller's frame, the return address and each of these registers must be those of the list.
+x30 must be the return address, as it is when the function has returned. A register without a rule keeps its value.
 
-It prints how many instructions were compared, how many were in code that no record covers, how many addresses that is, and
-the first wrong ones, and ends with status 1 if any was wrong.
+The script prints how many instructions were compared, at how many addresses, how many were in code without a record,
+and the first wrong ones. The exit status is 1 if any was wrong.
 """
 import struct
 import sys
@@ -26,12 +26,12 @@ NUMBERS = {name: getattr(arm64_const, "UC_ARM64_REG_" + name.upper()) for name i
 
 
 def is_call(code):
-    """Whether an instruction is `bl` or `blr`."""
+    """Returns whether an instruction is `bl` or `blr`."""
     return code & 0xFC00_0000 == 0x9400_0000 or code & 0xFFFF_FC1F == 0xD63F_0000
 
 
 def is_return(code):
-    """Whether an instruction is `ret`."""
+    """Returns whether an instruction is `ret`."""
     return code & 0xFFFF_FC1F == 0xD65F_0000
 
 
@@ -67,7 +67,8 @@ class Run:
             return 0xDEAD_DEAD_DEAD_DEAD
 
     def before_call(self, behind):
-        """What the caller's registers are once a call has returned to the address behind it."""
+        """Remembers the registers that the caller will have when the call has returned to its return address,
+        `behind`."""
         values = self.registers()
         self.pending = {name: values[name] for name in KEPT + ["sp"]}
         self.pending["x30"] = self.pending["return address"] = behind
@@ -91,7 +92,7 @@ class Run:
             self.returning = True
 
     def compare(self, address):
-        """Compares the caller that the records say with the caller of the list."""
+        """Compares the caller according to the records with the last open call."""
         rules = self.records.at(address - self.program.base)
         if rules is None:
             self.uncovered += 1

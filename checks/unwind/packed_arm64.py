@@ -3,9 +3,9 @@
 
 Usage: packed_arm64.py PART PARTS > packed.s     PART is a number from 0 to PARTS - 1
 
-Each function stores another set of registers, in a frame of another size, and loads them again; its packed data is in the
-section .pdata. The program's entry point calls each function once. All parts together have each set of registers that a
-canonical prologue has, with nine sizes of the rest of the frame.
+Each function stores a different set of registers, in a frame of a different size, and loads them again. Its packed data
+is in the section .pdata. The program's entry point calls each function once. All parts together have each set of
+registers of a canonical prologue, with up to nine sizes for the rest of the frame.
 """
 import sys
 
@@ -15,7 +15,8 @@ SIGNED, CHAINED = 2, 3
 
 
 class Frame:
-    """A set of registers: how many from x19 on, how many from d8 on less one, the parameters, and what CR says of x30."""
+    """A set of registers: how many from x19 on, how many from d8 on minus one, whether x0 to x7 are stored, and the
+    field CR, which says what happens with x30."""
 
     def __init__(self, registers, floats, homed, link):
         self.registers, self.floats, self.homed, self.link = registers, floats, homed, link
@@ -25,7 +26,7 @@ class Frame:
         self.prologue, self.epilogue, self.moved = [], [], False
 
     def both(self, store, load):
-        """An instruction of the prologue, and the one of the epilogue that undoes it."""
+        """Adds an instruction to the prologue, and the one that undoes it to the epilogue."""
         self.prologue.append(store)
         self.epilogue.insert(0, load)
 
@@ -39,7 +40,7 @@ class Frame:
         self.moved = True
 
     def general(self):
-        """The registers from x19 on, and x30 behind them."""
+        """Stores the registers from x19 on, and x30 after them."""
         for number in range(0, self.registers, 2):
             if number + 1 < self.registers:
                 names = f"x{19 + number}, x{20 + number}"
@@ -50,14 +51,14 @@ class Frame:
             self.store("x30", self.register_size - 8)
 
     def floating(self):
-        """The registers from d8 on."""
+        """Stores the registers from d8 on."""
         count = self.floats + 1 if self.floats else 0
         for number in range(0, count, 2):
             names = f"d{8 + number}" + (f", d{9 + number}" if number + 1 < count else "")
             self.store(names, self.register_size + 8 * number)
 
     def parameters(self):
-        """The registers x0 to x7, which aren't loaded again."""
+        """Stores the registers x0 to x7, which aren't loaded again."""
         for number in range(0, 8, 2):
             names = f"x{number}, x{number + 1}"
             if self.moved:
@@ -67,12 +68,12 @@ class Frame:
                 self.moved = True
 
     def allocate(self, size):
-        """Moves the stack pointer, in two steps if need be."""
+        """Moves the stack pointer, in two steps if the size needs them."""
         for step in ([4080, size - 4080] if size > 4080 else [size] if size else []):
             self.both(f"sub sp, sp, #{step}", f"add sp, sp, #{step}")
 
     def locals(self, size):
-        """The rest of the frame, with x29 and x30 at its bottom."""
+        """Allocates the rest of the frame, with x29 and x30 at its bottom."""
         if self.link < SIGNED:
             self.allocate(size)
         else:
@@ -84,7 +85,7 @@ class Frame:
             self.prologue.append("mov x29, sp")
 
     def function(self, local):
-        """The instructions of the function, and its packed data."""
+        """Returns the instructions of the function, and its packed data."""
         if self.link == SIGNED:
             self.both("hint #27", "hint #31")
         self.general()
@@ -100,7 +101,7 @@ class Frame:
 
 
 def functions():
-    """All functions."""
+    """Yields all functions."""
     for registers in range(11):
         for floats in range(8):
             for homed in range(2):

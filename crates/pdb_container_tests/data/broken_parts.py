@@ -1,4 +1,4 @@
-"""A PDB file of which parts are broken, by its bytes, and what is wanted of it: what can be read, and what can't."""
+"""Builds PDB files with broken parts, byte by byte, and the expected output: what can be read, and what can't."""
 from kinds import (CUT, HAS_IDS, SECTIONS, Symbols, container, contribution, debug_stream, faulty, info_stream,
                    item_list, item_stream, module_header, primitives, put_procedure, records, shown, string_stream,
                    subsection, text, u16, u32, u8)
@@ -8,15 +8,15 @@ SHORT = 0xF12EBA2D
 
 
 class Modules:
-    """Modules with their streams, and what is wanted of each."""
+    """Modules with their streams, and the expected records and broken parts."""
 
     def __init__(self, first_stream):
         self.headers, self.streams, self.wanted, self.names, self.broken = b"", [], [], [], []
         self.first_stream = first_stream
 
     def put(self, name, symbols, code, wanted, broken=(), symbols_length=None, code_length=None):
-        """A module with these symbols, behind the number of their form, and this code. A list may say that it has more
-        than there is."""
+        """Adds a module with these symbols, which start with the number of their form, and this code. The header may
+        say that a list is longer than it is."""
         number = len(self.wanted)
         stream = self.first_stream + len(self.streams)
         self.headers += module_header(stream, len(symbols) if symbols_length is None else symbols_length,
@@ -29,7 +29,7 @@ class Modules:
 
 
 def one_procedure():
-    """The bytes of one procedure and the symbol that ends it, and what is wanted of them."""
+    """Returns the bytes of a procedure and the symbol that ends it, and the expected records."""
     symbols = Symbols(u32(4))
     put_procedure(symbols, 0x1110, 0x100, b"f")
     symbols.close(6)
@@ -43,7 +43,7 @@ INLINEES = subsection(0xF6, u32(0) + u32(0x1000, 0, 50))
 
 
 def put_symbol_lists(modules):
-    """Lists of symbols that say more than their stream has, or are of another form."""
+    """Adds modules whose list of symbols is longer than its stream, is cut, or has another form."""
     data, wanted = one_procedure()
     modules.put(b"more symbols than there are", data, b"", {"symbols": faulty(wanted, CUT)}, [("Symbols", CUT)],
                 symbols_length=len(data) + 4)
@@ -56,7 +56,7 @@ def put_symbol_lists(modules):
 
 
 def put_code_lists(modules):
-    """Parts of code that say more than their stream has."""
+    """Adds modules whose subsections are longer than their stream, are cut, or have another form."""
     data, wanted = one_procedure()
     whole = ONE_FILE + subsection(0xF2, ROW)
     symbols = {"symbols": wanted}
@@ -88,15 +88,15 @@ TYPES = [(0x1001, u32(0x74) + u16(1), {"kind": "Modifier", "underlying_type": 0x
 
 
 def broken_parts():
-    """The file and what is wanted of it."""
+    """Returns the file and the expected output."""
     modules = Modules(10)
     put_symbol_lists(modules)
     put_code_lists(modules)
-    # two modules claim the same bytes: the greater claim counts, of equal ones the first; one ends past 32 bits
+    # two modules claim the same bytes: the greater claim counts, or of equal claims the first; one ends beyond 32 bits
     claims = [(0, 0x80, 0), (0x40, 0x20, 1), (0x200, 0x10, 2), (0x208, 0x10, 3), (0x300, 0x10, 4), (0x304, 0x40, 5),
               (0xFFFFFFF0, 0x20, 6), (0x400, 0, 7), (0x420, 8, 7), (0x424, 8, 7)]
     contributions = u32(SHORT) + b"".join(contribution(1, *claim) for claim in claims) + u16(1, 0)
-    # the last module of the list ends too late
+    # the last module of the list is cut
     debug = debug_stream(modules.headers + bytes(64) + b"no end", contributions)
     types = item_stream(TYPES)
     types = types[:16] + u32(len(types) - 56 + 4) + types[20:] + u16(9, 0x1001)
@@ -121,12 +121,13 @@ def broken_parts():
 
 
 def records_types():
-    """The types that are read before the one that ends too late."""
+    """Returns the types before the one that is cut."""
     return primitives() + item_list(TYPES)
 
 
 def modules_of_one_stream():
-    """A file whose modules name one stream: so many have it as the file has bytes for."""
+    """Returns a file whose modules all name one stream. It is read only for as many modules as the file has bytes
+    for."""
     data, symbols = one_procedure()
     code = subsection(0xF1, bytes(3000))
     names = [b"first", b"second", b"third", b"fourth"]

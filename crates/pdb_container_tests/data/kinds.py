@@ -1,7 +1,8 @@
-"""A PDB file with a record of each kind, by its bytes, and the records that are wanted of it.
+"""Builds a PDB file with a record of each kind, byte by byte, and the expected records.
 
-Every record stands here twice, side by side: as the bytes that Microsoft's headers and LLVM's documents lay out, and as
-what docs/FORMAT.md has it as. Nothing is taken from the reader under test. `write_files.py` writes the file.
+Each record is written twice, side by side: as bytes in the layout of Microsoft's headers and LLVM's documents, and as
+its member of a records file (docs/FORMAT.md). Nothing is taken from the reader under test. `write_files.py` writes the
+file.
 """
 import json
 import struct
@@ -13,37 +14,37 @@ NO_FILE = 0xFFFFFFFF
 
 
 def u8(*numbers):
-    """Numbers of one byte."""
+    """Packs numbers of one byte."""
     return struct.pack(f"<{len(numbers)}B", *numbers)
 
 
 def u16(*numbers):
-    """Numbers of two bytes."""
+    """Packs numbers of two bytes."""
     return struct.pack(f"<{len(numbers)}H", *numbers)
 
 
 def u32(*numbers):
-    """Numbers of four bytes."""
+    """Packs numbers of four bytes."""
     return struct.pack(f"<{len(numbers)}I", *numbers)
 
 
 def text(name):
-    """A text that a zero ends."""
+    """Returns a text that ends with a zero byte."""
     return name + b"\0"
 
 
 def short(name):
-    """A text behind its length."""
+    """Returns a text after a byte with its length."""
     return u8(len(name)) + name
 
 
 def aligned(data, fill=b"\0"):
-    """Bytes up to a multiple of four."""
+    """Fills bytes up to a multiple of four."""
     return data + fill * (-len(data) % 4)
 
 
 def shown(name):
-    """A name as the records file has it: a text, or its bytes where they are no UTF-8."""
+    """Returns a name as a records file has it: a text, or its bytes if they are not UTF-8."""
     try:
         return name.decode()
     except UnicodeDecodeError:
@@ -63,13 +64,13 @@ PRIMITIVES = [
 ]
 
 
-# The index of `std::nullptr_t`, and that of a pointer to void
+# The index of `std::nullptr_t`, and that of a pointer to void.
 NULL_POINTER, VOID_POINTER = 0x103, 0x603
 
 
 def primitives():
-    """What the compiler brings: each primitive, and each of the seven ways to point to it, of which one is a type of its
-    own."""
+    """Returns the built-in types: each primitive, and the seven kinds of pointers to it. One of these pointers is
+    `std::nullptr_t`."""
     items = [{"index": mode * 256 + number, "kind": "Primitive", "primitive": name, "indirection": mode > 0}
              for mode in range(8) for number, name in PRIMITIVES]
     null_pointer = {"index": NULL_POINTER, "kind": "Enumeration", "name": "std::nullptr_t",
@@ -78,13 +79,13 @@ def primitives():
 
 
 def pointer(mode, attributes, size, const=False):
-    """A pointer to the type 0x74, by the bits of its attributes."""
+    """Returns a pointer to the type 0x74, with these bits as its attributes."""
     return (0x1002, u32(0x74, attributes),
             {"kind": "Pointer", "underlying_type": 0x74, "mode": mode, "is_const": const, "size": size})
 
 
 def class_of(leaf, kind, properties, size, front, name, unique=None, forward=False):
-    """A class, a struct or an interface of three members, with its size as it stands in the record."""
+    """Returns a class, a struct or an interface with three members. `front` is its size as the record has it."""
     wanted = {"kind": "Class", "class_kind": kind, "name": shown(name)}
     if unique is not None:
         wanted["unique_name"] = shown(unique)
@@ -94,7 +95,7 @@ def class_of(leaf, kind, properties, size, front, name, unique=None, forward=Fal
 
 
 def newer_class(leaf, kind, properties, front, size, name, unique=None):
-    """A class, a struct or an interface of three members in the newer layout."""
+    """Returns a class, a struct or an interface with three members, in the newer layout."""
     wanted = {"kind": "Class", "class_kind": kind, "name": shown(name)}
     if unique is not None:
         wanted["unique_name"] = shown(unique)
@@ -104,7 +105,7 @@ def newer_class(leaf, kind, properties, front, size, name, unique=None):
 
 
 def union(properties, name, unique=None, forward=False):
-    """A union of sixteen bytes and two members."""
+    """Returns a union of sixteen bytes with two members."""
     wanted = {"kind": "Union", "name": shown(name)}
     if unique is not None:
         wanted["unique_name"] = shown(unique)
@@ -114,13 +115,13 @@ def union(properties, name, unique=None, forward=False):
 
 
 def enumerate_of(front, kind, value):
-    """A value of an enumeration, with the number as it stands in the record."""
+    """Returns a value of an enumeration. `front` is its number as the record has it."""
     return (0x1502, u16(3) + front + text(b"Red"),
             {"kind": "Enumerate", "name": "Red", "value": {"kind": kind, "value": value}})
 
 
 def other(leaf, name):
-    """A kind of type or id that is known by its name alone."""
+    """Returns a type or id of a kind that a records file only names."""
     return (leaf, u32(0, 0), {"kind": "Other", "kind_name": name})
 
 
@@ -210,20 +211,20 @@ IDS = [
 
 
 def item_stream(items, first=0x1000, header=56):
-    """A stream of types or of ids: its header, and each record behind its length."""
+    """Returns a stream of types or of ids: its header, and each record after its length."""
     records = b"".join(u16(len(content) + 2, leaf) + content for leaf, content, _ in items)
     return u32(VERSION, header, first, first + len(items), len(records)) + bytes(header - 20) + records
 
 
 def item_list(items, first=0x1000):
-    """The items as the records file has them."""
+    """Returns the items as a records file has them."""
     return [{"index": first + number, **wanted} for number, (_, _, wanted) in enumerate(items)]
 
 
 # --- symbols ---------------------------------------------------------------------------------------------------------
 
 class Symbols:
-    """A list of symbols behind the number of its form, and what is wanted of each."""
+    """A list of symbols after the number of its form, and the expected records."""
 
     def __init__(self, front):
         self.data = front
@@ -231,18 +232,18 @@ class Symbols:
         self.ends = []
 
     def passed(self, kind, content):
-        """A record that only fills room."""
+        """Adds a record that readers skip."""
         self.data += u16(len(content) + 2, kind) + content
 
     def put(self, kind, content, wanted, opens=None):
-        """A symbol. One that opens has the offset of its closing symbol put in at `opens`."""
+        """Adds a symbol. If it opens a scope, the offset of its closing symbol is written at `opens` later."""
         if opens is not None:
             self.ends.append((len(self.data) + 4 + opens, len(self.wanted)))
         self.data += u16(len(content) + 2, kind) + content
         self.wanted.append({"raw_kind": kind, **({} if wanted is None else {"data": wanted})})
 
     def close(self, kind):
-        """The symbol that closes the last one that is open."""
+        """Adds the symbol that closes the last open one."""
         at, opened = self.ends.pop()
         self.data = self.data[:at] + u32(len(self.data)) + self.data[at + 4:]
         self.wanted[opened]["data"]["end"] = len(self.wanted)
@@ -250,18 +251,18 @@ class Symbols:
 
 
 def name_of(kind, name):
-    """A symbol's name in the form of its kind."""
+    """Returns a symbol's name in the form of its kind."""
     return short(name) if kind < 0x1100 else text(name)
 
 
-# Kinds of procedures that the records have as others, with those: by Itanium's code and managed code
+# Kinds of procedures for Itanium and for managed code, and the kinds that they have in the records.
 AS_OTHERS = {0x1118: 0x110F, 0x1119: 0x1110, 0x112A: 0x1110, 0x112B: 0x110F}
 MANAGED = {0x112A, 0x112B}
 
 
 def put_procedure(symbols, kind, offset, name):
-    """A procedure of 32 bytes in section 1. Behind its section stand flags, and in two forms the number of a register.
-    Managed code has a token in place of its type."""
+    """Adds a procedure of 32 bytes in section 1. Flags follow its section, and in two forms also the number of a
+    register. Managed code has a token instead of its type."""
     behind = u8(0, 0x2A, 0x2A) if kind in AS_OTHERS else u8(0)
     typed = 0x06000001 if kind in MANAGED else 0x1009
     content = u32(0, 0, 0, 32, 0, 0, typed, offset) + u16(1) + behind + name_of(kind, name)
@@ -271,20 +272,20 @@ def put_procedure(symbols, kind, offset, name):
 
 
 def put_thunk(symbols, kind, offset, name):
-    """A thunk of six bytes in section 1."""
+    """Adds a thunk of six bytes in section 1."""
     content = u32(0, 0, 0, offset) + u16(1, 6) + u8(0) + name_of(kind, name)
     symbols.put(kind, content, {"kind": "Thunk", "section": 1, "offset": offset, "len": 6, "name": shown(name),
                                 "end": 0}, opens=4)
 
 
 def put_site(symbols, kind, inlinee, annotations, rows):
-    """A place where a function was inlined."""
+    """Adds an inline site."""
     front = u32(0, 0, inlinee) + (u32(1) if kind == 0x115D else b"")
     symbols.put(kind, front + annotations, {"kind": "InlineSite", "inlinee": inlinee, "end": 0, "rows": rows}, opens=4)
 
 
 def put_chunk(symbols, offset, parent, name=None):
-    """Eight bytes of code apart from their function. With a name it is a procedure that goes by it."""
+    """Adds eight bytes of separated code. With a name it is expected as a procedure of that name."""
     content = u32(0, 0, 8, 0, offset, parent) + u16(1, 1)
     if name is None:
         wanted = {"kind": "SeparatedCode", "section": 1, "offset": offset, "len": 8, "parent_section": 1,
@@ -296,7 +297,7 @@ def put_chunk(symbols, offset, parent, name=None):
 
 
 def put_trampoline(symbols, offset, target, name=None, type_index=0):
-    """A jump of five bytes. Where its function is known it is a procedure of that name."""
+    """Adds a jump of five bytes. If its function is known, it is expected as a procedure of that name."""
     content = u16(0, 5) + u32(offset, target) + u16(1, 1)
     if name is None:
         symbols.put(0x112C, content, {"kind": "SeparatedCode", "section": 1, "offset": offset, "len": 5,
@@ -308,7 +309,7 @@ def put_trampoline(symbols, offset, target, name=None, type_index=0):
 
 
 def row(offset, length, file_index, line):
-    """A row of a site."""
+    """Returns a row of a site."""
     wanted = {"offset": offset}
     if length is not None:
         wanted["length"] = length
@@ -317,7 +318,7 @@ def row(offset, length, file_index, line):
 
 
 def faulty(items, fault):
-    """What was read, and why no more."""
+    """Returns a list that was read up to a fault."""
     return {"items": items, "fault": fault}
 
 
@@ -326,35 +327,36 @@ PROCEDURES = [(0x100A, b"local, old"), (0x100B, b"global, old"), (0x110F, b"loca
               (0x1156, b"local by id, device"), (0x1118, b"local, Itanium"), (0x1119, b"global, Itanium"),
               (0x112A, b"global, managed"), (0x112B, b"local, managed")]
 
-# The annotations of a site in a procedure at offset 0x100 whose inlinee starts at line 50 of the first file: the
-# kinds by their numbers, then the rows. A number below 128 is a byte; of a change of line the lowest bit is the sign.
+# The annotations of a site in a procedure at offset 0x100, and the expected rows. The inlinee starts at line 50 of the
+# first file. Annotations are pairs of a kind and a number. A number below 128 is one byte. In a change of line the
+# lowest bit is the sign.
 SITES = [
-    # on 4: a row, which the next one ends; on 2 and line +3: a row; its length 5
+    # offset +4: a row, which the next one ends; offset +2 and line +3: a row; its length 5
     (u8(3, 4, 11, 0x62, 4, 5),
      [row(0x104, 2, 0, 50), row(0x106, 5, 0, 53)]),
-    # line -2, the second file, on 1: a row with no end
+    # line -2, the second file, offset +1: a row without an end
     (u8(6, 5, 5, 8, 3, 1), [row(0x101, None, 1, 48)]),
-    # length 3 and on 0x81: a row with its own length; numbers of two and of four bytes
+    # length 3 and offset +0x81: a row with its own length; numbers of two and of four bytes
     (u8(12, 3) + u8(0x80, 0x81) + u8(3) + u8(0xC0, 0x01, 0x00, 0x02) + u8(4, 1),
      [row(0x181, 3, 0, 50), row(0x10183, 1, 0, 50)]),
-    # from 0x10 behind the procedure's start on; kinds that rows don't show; 0 ends the list
+    # from 0x10 after the procedure's start on; kinds that rows don't show; 0 ends the list
     (u8(1, 0x10, 7, 1, 8, 1, 9, 2, 10, 3, 13, 1, 2, 0, 3, 2, 4, 2) + u8(0, 3, 9), [row(0x112, 2, 0, 50)]),
-    # the code goes on in the function's first chunk, on 2; and from 0x10 behind the chunk's start on
+    # in the function's first chunk, offset +2; then from 0x10 after the chunk's start on
     (u8(3, 1, 2, 1, 3, 2, 4, 3, 1, 0x10, 3, 0),
      [row(0x101, None, 0, 50), row(0x502, 3, 0, 50), row(0x510, None, 0, 50)]),
-    # in the third one
+    # in the third chunk
     (u8(2, 3, 3, 1, 4, 1), [row(0x541, 1, 0, 50)]),
-    # in a fourth one, which isn't there
+    # in a fourth chunk, which doesn't exist
     (u8(3, 1, 2, 4), faulty([row(0x101, None, 0, 50)], APART)),
-    # a kind that isn't known
+    # an unknown kind
     (u8(3, 1, 14, 1), faulty([row(0x101, None, 0, 50)], BAD_NUMBER)),
-    # a file whose entry starts elsewhere
+    # a file offset at which no file starts
     (u8(5, 4, 3, 1, 4, 1), [row(0x101, 1, NO_FILE, 50)]),
 ]
 
 
 def module_symbols():
-    """Each kind of symbol of a module."""
+    """Returns symbols of a module, of each kind."""
     symbols = Symbols(u32(4))
     for number, (kind, name) in enumerate(PROCEDURES):
         put_procedure(symbols, kind, 0x200 + 32 * number, name)
@@ -363,10 +365,10 @@ def module_symbols():
     symbols.close(6)
     put_thunk(symbols, 0x1102, 0x410, b"thunk\xe9")
     symbols.close(6)
-    # a chunk that isn't behind its function is a procedure of the function's name
+    # a chunk that doesn't follow its function is a procedure with the function's name
     put_chunk(symbols, 0x500, 0x100, "with sites")
     symbols.close(6)
-    # one of no function that is known stays as it is
+    # a chunk of an unknown function stays as it is
     put_chunk(symbols, 0x508, 0x9999)
     symbols.close(6)
     symbols.passed(0x0402, u16(0))
@@ -375,11 +377,11 @@ def module_symbols():
     for number, (annotations, rows) in enumerate(SITES):
         put_site(symbols, 0x114D if number % 2 == 0 else 0x115D, 0x1000, annotations, rows)
         symbols.close(0x114E)
-    # a function that no inlinee names has no rows
+    # a site has no rows if the module doesn't list its inlinee
     put_site(symbols, 0x114D, 0x1003, u8(3, 4), [])
     symbols.close(0x114E)
     symbols.close(6)
-    # a chunk behind its function, with a site that starts at the chunk, and a second one
+    # a chunk after its function, with a site that starts at the chunk, and a second chunk
     put_chunk(symbols, 0x520, 0x100)
     put_site(symbols, 0x114D, 0x1000, u8(3, 4, 4, 2), [row(0x524, 2, 0, 50)])
     symbols.close(0x114E)
@@ -398,13 +400,13 @@ def module_symbols():
 
 
 def global_symbols():
-    """Both kinds of public symbols, one of another kind, and one that is cut."""
+    """Returns both kinds of public symbols, one symbol of another kind, and one that is cut."""
     symbols = Symbols(b"")
     symbols.put(0x110E, u32(2, 0x20) + u16(1) + text(b"?f@@YAXXZ"),
                 {"kind": "Public", "section": 1, "offset": 0x20, "name": "?f@@YAXXZ"})
     symbols.put(0x1009, u32(2, 0x30) + u16(1) + short(b"old\xff"),
                 {"kind": "Public", "section": 1, "offset": 0x30, "name": list(b"old\xff")})
-    # where a procedure starts too, whose name a jump has
+    # at the start of a procedure, whose name a jump has
     symbols.put(0x110E, u32(2, 0x200) + u16(1) + text(b"?local@@YAXXZ"),
                 {"kind": "Public", "section": 1, "offset": 0x200, "name": "?local@@YAXXZ"})
     symbols.put(0x1125, u32(0, 0, 0) + u16(1) + text(b"reference"), {"kind": "Other"})
@@ -420,12 +422,13 @@ FIRST, SECOND, IMPORTED = 1, 7, 11
 
 
 def subsection(kind, content):
-    """A part of what is known of a module's code."""
+    """Returns a subsection of a module."""
     return aligned(u32(kind, len(content)) + content)
 
 
 def lines():
-    """Rows of one function in two files: those of no line are passed over, and columns too."""
+    """Returns rows of one function in two files. Rows with the line numbers 0xFEEFEE and 0xF00F00 mean no line, and are
+    skipped. The flag for columns is set, but there are no columns."""
     of_first = u32(0, 4, 12 + 4 * 8) + u32(0, 10 | 1 << 31, 4, 0xFEEFEE, 8, 0xF00F00, 12, 12 | 3 << 24)
     of_second = u32(8, 1, 12 + 8) + u32(16, 99)
     content = u32(0x100) + u16(1, 1) + u32(32) + of_first + of_second
@@ -437,8 +440,9 @@ def lines():
 
 
 def lines_of_more_procedures():
-    """A part of lines over three procedures of 32 bytes, the first at its start. Of two rows at one offset the last
-    counts, the first row of a procedure begins with it, and the rows of the second and third stand under their own."""
+    """Returns a subsection of lines over three procedures of 32 bytes, the first of which is at its start. If two rows
+    have the same offset, the last one wins. Each procedure has an entry with its own rows. The row that covers the
+    procedure's start is moved to it."""
     of_first = u32(0, 2, 12 + 2 * 8) + u32(4, 20, 4, 21)
     of_last = u32(16, 1, 12 + 8) + u32(0x30, 22)
     content = u32(0x220) + u16(1, 0) + u32(0x60) + of_first + of_last
@@ -453,8 +457,8 @@ def lines_of_more_procedures():
 
 
 def module_code():
-    """The parts behind a module's symbols, and what is wanted of them. Of files and inlinees there are two parts, and
-    the first of equal offsets or ids counts."""
+    """Returns the subsections of a module, and the expected records. There are two subsections of files and two of
+    inlinees. If two files have the same offset or two inlinees the same id, the first one counts."""
     files = u32(FIRST) + u8(0, 0) + u16(0) + u32(SECOND) + u8(16, 1) + bytes(16)
     more_files = b"".join(u32(name) + u8(0, 0) + u16(0) for name in (IMPORTED, IMPORTED, FIRST))
     inlinees = u32(0) + u32(0x1000, 0, 50)
@@ -477,7 +481,7 @@ def module_code():
 
 
 def inlinees_of_more_files():
-    """The other form of the list of inlinees, of a module with nothing else."""
+    """Returns the other form of the list of inlinees, for a module that has nothing else."""
     data = subsection(0xF6, u32(1) + u32(0x1000, 0, 50) + u32(2, 8, 8) + u32(0x1001, 0, 60) + u32(0))
     return data, {"symbols": [], "line_program": {"entries": [], "files": []}, "inlinees": [0x1000, 0x1001],
                   "imports": [], "exports": []}
@@ -486,18 +490,18 @@ def inlinees_of_more_files():
 # --- the whole file --------------------------------------------------------------------------------------------------
 
 def module_header(stream, symbols, code, name, old_lines=0):
-    """What the stream of debug information says of a module."""
+    """Returns the header of a module in the debug information."""
     front = bytes(34) + u16(stream) + u32(symbols, old_lines, code) + bytes(16)
     return aligned(front + text(name) + text(b"library"))
 
 
 def contribution(section, offset, size, module, extra=b""):
-    """Bytes of a section that are a module's."""
+    """Returns a section contribution."""
     return u16(section, 0) + u32(offset, size, 0x60000020) + u16(module, 0) + u32(0, 0) + extra
 
 
 def section_header(address, size, flags):
-    """The header of a section."""
+    """Returns a section header."""
     return b".name\0\0\0" + u32(size, address) + bytes(20) + u32(flags)
 
 
@@ -505,13 +509,13 @@ CONTRIBUTIONS = u32(0xF12EBA2D) + contribution(1, 0, 0x80, 0) + contribution(1, 
 
 
 def more_streams(sections=9, to=0xFFFF, back=0xFFFF):
-    """The numbers of the streams that not every file has: of rearranged addresses, and of section headers."""
+    """Returns the optional debug header. It has the streams of the OMAP data and of the section headers."""
     return u16(0xFFFF, 0xFFFF, 0xFFFF, to, back, sections)
 
 
 def debug_stream(modules, contributions=CONTRIBUTIONS, more=more_streams(), machine=0x8664, parts=(b"", b"", b"", b"")):
-    """The header of the debug information, and its parts: modules, contributions, the map of sections, the list of
-    sources, the map of type servers, edit and continue, and last more streams."""
+    """Returns the stream of debug information: its header, modules, contributions, the section map, the list of
+    sources, the map of type servers, edit and continue data, and the optional debug header."""
     of_sections, sources, servers, edits = parts
     front = u32(0xFFFFFFFF, 19990903, 1) + u16(6, 0, 7, 0, 8, 0)
     front += u32(len(modules), len(contributions), len(of_sections), len(sources), len(servers), 0, len(more), len(edits))
@@ -523,23 +527,23 @@ HAS_IDS = u32(20140508)
 
 
 def info_stream(features=u32(0, 0x4D544F4E) + HAS_IDS, version=20000404):
-    """The stream that names another one: a table of hashes with one entry, and what the file lists that it has. Its age
-    is 3, and its GUID has the bytes 0 to 15."""
+    """Returns the PDB info stream: the table of named streams, with one entry, and the list of features. The age is 3,
+    and the GUID has the bytes 0 to 15."""
     return u32(version, 0, 3) + bytes(range(16)) + u32(7) + b"/names\0" + u32(1, 1, 1, 1, 0, 0, 5) + features
 
 
 def string_stream():
-    """The table of texts, each under its offset."""
+    """Returns the string table. A string's reference is its offset."""
     return u32(0xEFFEEFFE, 1, len(TEXTS)) + TEXTS + u32(0, 0)
 
 
 def container(streams, block=BLOCK, between=0):
-    """A file with these streams, in blocks: the superblock, two maps of what is free, the streams, the directory, and
-    the list of the directory's blocks, of which so many blocks lie between each other."""
+    """Returns a file with these streams, in blocks: the superblock, two free block maps, the streams, the directory,
+    and the list of the directory's blocks. `between` empty blocks follow each block of that list."""
     blocks = [b"", b"", b""]
 
     def put(data):
-        """The numbers of the blocks that data are put into."""
+        """Adds data to the blocks, and returns their numbers."""
         own = []
         for start in range(0, len(data), block):
             own.append(len(blocks))
@@ -567,7 +571,7 @@ TEXTS_WANTED = [{"ref": 0, "text": ""}, {"ref": 1, "text": "a.cpp"}, {"ref": 7, 
 
 
 def records(**changed):
-    """The records that are wanted of a file with no modules, with what is changed of them, as a line."""
+    """Returns the expected records of a file without modules, as a line. Arguments replace parts of them."""
     wanted = {
         "version": 2,
         "sections": SECTIONS_WANTED,
@@ -585,7 +589,7 @@ def records(**changed):
 
 
 def whole():
-    """The file and what is wanted of it."""
+    """Returns the file and the expected output."""
     symbols = module_symbols()
     code, info = module_code()
     more, other_info = inlinees_of_more_files()

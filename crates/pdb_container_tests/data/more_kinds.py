@@ -1,23 +1,23 @@
-"""A PDB file with records of kinds that are there already, in other forms, by its bytes, and the records that are wanted
-of it."""
+"""Builds a PDB file with other forms of records whose kinds kinds.py has already, byte by byte, and the expected
+records."""
 import struct
 
 from kinds import (SECTIONS, Symbols, class_of, container, debug_stream, info_stream, item_list, item_stream,
                    module_header, primitives, put_site, put_thunk, records, row, string_stream, subsection, text, u16,
                    u32, u8)
 
-# properties with all bits, and with all but those of a forward reference and of a unique name
+# All property bits, and all except the bits of a forward reference and of a unique name.
 ALL, ALL_BUT_TWO = 0xFFFF, 0xFD7F
 
 
 def procedure_type(flags, constructor):
-    """A procedure's type with these flags."""
+    """Returns a procedure type with these flags."""
     return (0x1008, u32(0x74) + u8(0, flags) + u16(0) + u32(0x100C),
             {"kind": "Procedure", "return_type": 0x74, "is_constructor": constructor, "argument_list": 0x100C})
 
 
 def method_type(flags, constructor):
-    """A method's type with these flags."""
+    """Returns a method type with these flags."""
     return (0x1009, u32(3, 0x1010, 0x1002) + u8(11, flags) + u16(0) + u32(0x100C, 0),
             {"kind": "MemberFunction", "return_type": 3, "class_type": 0x1010, "this_pointer_type": 0x1002,
              "is_constructor": constructor, "argument_list": 0x100C})
@@ -27,7 +27,7 @@ TYPES = [
     procedure_type(0xFD, False), procedure_type(0xFF, True), method_type(0xFD, False), method_type(0xFF, True),
     class_of(0x1504, "Class", ALL, 8, u16(8), b"A", unique=b".?AVA@@", forward=True),
     class_of(0x1504, "Class", ALL_BUT_TWO, 8, u16(8), b"B"),
-    # sizes in signed numbers
+    # sizes as signed numbers
     class_of(0x1505, "Struct", 0, 100, u16(0x8000) + struct.pack("<b", 100), b"C"),
     class_of(0x1505, "Struct", 0, 300, u16(0x8001) + struct.pack("<h", 300), b"D"),
     class_of(0x1505, "Struct", 0, 70000, u16(0x8003) + struct.pack("<i", 70000), b"E"),
@@ -38,44 +38,44 @@ TYPES = [
 
 
 def end_at(symbols, at, end):
-    """Has the procedure whose record starts at an offset of the list end at another."""
+    """Sets the end of the procedure whose record is at an offset of the list."""
     symbols.data = symbols.data[:at + 8] + u32(end) + symbols.data[at + 12:]
 
 
 def put_procedure_to(symbols, offset, end, wanted_end):
-    """A procedure that is said to end at an offset of the list, and the position that is wanted for it."""
+    """Adds a procedure with this offset as its end, and the expected position of that end."""
     content = u32(0, end, 0, 32, 0, 0, 0x1009, offset) + u16(1) + u8(0) + text(b"p")
     symbols.put(0x1110, content, {"kind": "Procedure", "section": 1, "offset": offset, "len": 32, "name": "p",
                                   "end": wanted_end, "type_index": 0x1009})
 
 
 def module_symbols():
-    """Procedures that end elsewhere than at a symbol, code apart from another section's, a thunk before sites."""
+    """Returns procedures whose end isn't at a symbol, separated code of another section, and a thunk before a site."""
     symbols = Symbols(u32(4))
-    # at a record that is passed over: the symbol behind it
+    # the end is at a record that is skipped: the next symbol counts
     put_procedure_to(symbols, 0x200, 0, 1)
     end_at(symbols, 4, len(symbols.data))
     symbols.passed(0x0402, u16(0))
     symbols.put(6, b"", {"kind": "Other"})
-    # between two symbols: the second of them
+    # the end is between two symbols: the second one counts
     at = len(symbols.data)
     put_procedure_to(symbols, 0x220, 0, 4)
     end_at(symbols, at, len(symbols.data) + 2)
     symbols.put(6, b"", {"kind": "Other"})
     symbols.put(6, b"", {"kind": "Other"})
-    # before the first symbol, and behind the last one
+    # the end is before the first symbol, or after the last one
     put_procedure_to(symbols, 0x240, 0, 0)
     put_procedure_to(symbols, 0x260, 0xFFFFFFFF, LAST)
-    # code apart in another section than its function
+    # separated code in another section than its function
     symbols.put(0x1132, u32(0, 0, 8, 0, 0x500, 0x260) + u16(2, 1),
                 {"kind": "SeparatedCode", "section": 2, "offset": 0x500, "len": 8, "parent_section": 1,
                  "parent_offset": 0x260, "end": 0}, opens=4)
     symbols.close(6)
-    # a thunk before a site of the procedure: the site starts at the procedure
+    # a thunk before a site of the procedure: the site's offsets count from the procedure's start
     put_procedure_to(symbols, 0x100, 0xFFFFFFFF, LAST)
     put_thunk(symbols, 0x1102, 0x400, b"thunk")
     symbols.close(6)
-    # the second file from the second row on
+    # the second row is in the second file
     put_site(symbols, 0x114D, 0x1000, u8(3, 1, 5, 8, 3, 1, 4, 2), [row(0x101, 1, 0, 50), row(0x102, 2, 1, 50)])
     symbols.close(0x114E)
     assert len(symbols.wanted) == LAST
@@ -86,7 +86,8 @@ LAST = 14
 
 
 def module_code():
-    """Parts of lines in two sections and with columns, each part twice, a part that is to be ignored, three imports."""
+    """Returns subsections of lines in two sections and with columns, each kind twice, one that is marked as ignored,
+    and three imports."""
     files = subsection(0xF4, u32(1) + u8(0, 0) + u16(0) + u32(7) + u8(0, 0) + u16(0))
     inlinees = subsection(0xF6, u32(1) + u32(0x1000, 0, 50) + u32(1, 8))
     columns = u32(0, 2, 12 + 2 * 8 + 2 * 4) + u32(0, 7, 4, 8) + u16(1, 2, 3, 4)
@@ -116,7 +117,7 @@ def module_code():
 
 
 def whole():
-    """The file and what is wanted of it."""
+    """Returns the file and the expected output."""
     symbols = module_symbols()
     code, info = module_code()
     old_lines = b"lines of the old form..."

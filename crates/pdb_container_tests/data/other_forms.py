@@ -1,5 +1,5 @@
-"""PDB files in other forms than the usual one, by their bytes, and the records that are wanted of them: of other ages,
-of other sizes of blocks, with other lengths."""
+"""Builds PDB files in unusual forms, byte by byte, and the expected records: older versions, other block sizes, other
+lengths."""
 import more_kinds
 from kinds import (IMPORTED, SECTIONS, Symbols, class_of, container, contribution, debug_stream, info_stream, item_list,
                    item_stream, module_header, more_streams, primitives, put_chunk, put_procedure, put_trampoline, records,
@@ -10,9 +10,9 @@ SHORT, LONG = 0xF12EBA2D, 0xF13151E4
 
 
 def before_ids():
-    """A file from before there were ids, for Arm64 with code of x64 beside: what stands in stream 4 is no list of ids.
-    Contributions of 32 bytes, an empty stream of rearranged addresses, every part of the debug information there, and
-    a section whose number takes two bytes."""
+    """Returns a file from before PDB files had ids, for Arm64 with x64 code (ARM64EC). So stream 4 is not a list of
+    ids. The contributions have 32 bytes, the OMAP stream is empty, all parts of the debug information exist, and one
+    section number takes two bytes."""
     modules = module_header(10, 0, 0, b"a.obj")
     contributions = (u32(LONG) + contribution(1, 0x10, 0x20, 0, u32(7)) + contribution(0x123, 0x30, 0x40, 0, u32(8)))
     debug = debug_stream(modules, contributions, more_streams(to=6), 0xA641,
@@ -29,9 +29,9 @@ def before_ids():
 
 
 def first_with_ids():
-    """A file of the first version that has ids, which lists nothing behind that, in blocks of 4096 bytes, of which the
-    debug information fills some to the end. Other numbers of types begin above 0x1000, and a section has no flag but
-    that of code."""
+    """Returns a file of the first version with ids. Nothing after that version in the list of features counts. The
+    blocks have 4096 bytes, and the debug information ends exactly at the end of a block. Ids start at 0x1234, and the
+    section has only the flag for executable code."""
     modules = b"".join(module_header(0xFFFF, 0, 0, b"%027d" % number) for number in range(2 * 41))
     debug = debug_stream(modules, b"", more_streams(), 0xAA64)
     debug += bytes(-len(debug) % 4096)
@@ -50,35 +50,36 @@ def first_with_ids():
 
 
 def on_machine(machine):
-    """The debug information of a program without modules, for a machine."""
+    """Returns the debug information of a program without modules, for a machine."""
     return {"machine_type": machine, "modules": [], "section_contributions": []}
 
 
 def many_streams():
-    """A file for Itanium whose directory is so long that the list of its blocks takes two blocks, which don't lie side by
-    side."""
+    """Returns a file for Itanium with a long directory. The list of its blocks takes two blocks, which are not
+    consecutive."""
     streams = [b"", info_stream(), item_stream([]), debug_stream(b"", b"", machine=0x0200), item_stream([]),
                string_stream(), b"", None, b"", SECTIONS] + [None] * 17000
     return container(streams, 512, between=1), [records(debug_information=on_machine("Ia64"))]
 
 
 def names_only():
-    """A file for RISC-V that has names alone: its lines and types are in objects."""
+    """Returns a file for RISC-V that has only names. Its lines and types are in object files."""
     streams = [b"", info_stream(u32(20140508, 0x494E494D)), item_stream([]), debug_stream(b"", b"", machine=0x5064),
                item_stream([]), string_stream(), b"", None, b"", SECTIONS]
     return container(streams, 16384), ["names only", records(debug_information=on_machine("RiscV64"))]
 
 
 def other_machine(machine, name):
-    """A file for another machine, without modules."""
+    """Returns a file for another machine, without modules."""
     streams = [b"", info_stream(), item_stream([]), debug_stream(b"", b"", machine=machine), item_stream([]),
                string_stream(), b"", None, b"", SECTIONS]
     return container(streams), [records(debug_information=on_machine(name))]
 
 
 def chunks_of_two_modules():
-    """Two modules that both list a procedure where the functions of chunks start: each chunk goes by that of its own
-    module, where that lists one, and a jump by that of the first module."""
+    """Returns a file with two modules that both have a procedure at the start of the chunks' functions. A chunk gets
+    the name of the procedure in its own module, if that has one. A jump gets the name of the one in the first
+    module."""
     first, second = Symbols(u32(4)), Symbols(u32(4))
     put_procedure(first, 0x1110, 0x100, b"first")
     first.close(6)
@@ -110,7 +111,7 @@ def chunks_of_two_modules():
 
 
 def put_typed_procedure(symbols, offset, name, type_index):
-    """A procedure of 32 bytes in section 1, with this type."""
+    """Adds a procedure of 32 bytes in section 1 with this type."""
     content = u32(0, 0, 0, 32, 0, 0, type_index, offset) + u16(1) + u8(0) + name + b"\0"
     symbols.put(0x1110, content, {"kind": "Procedure", "section": 1, "offset": offset, "len": 32, "name": name.decode(),
                                   "end": 0, "type_index": type_index}, opens=4)
@@ -118,8 +119,9 @@ def put_typed_procedure(symbols, offset, name, type_index):
 
 
 def parts_of_other_modules():
-    """Four modules: the first one's procedure has a type that it imports from the second, the third one has a chunk of the
-    second one's procedure, and that of the fourth one has an array of a class whose size stands with another type."""
+    """Returns a file with four modules whose answers need parts of other modules. The first one's procedure has a type
+    that it imports from the second. The third one has a chunk of the second one's procedure. The fourth one's procedure
+    takes an array of a class, whose size is in another type record."""
     importing, exporting, chunks, sizes = (Symbols(u32(4)) for _ in range(4))
     put_typed_procedure(importing, 0x100, b"f", 0x80000000)
     put_typed_procedure(exporting, 0x200, b"g", 0x1001)

@@ -1,11 +1,12 @@
-"""Files over which nothing is answered, by their bytes, and why."""
+"""Builds files that can't be read, or whose types, ids or public symbols can't be read, byte by byte, with the expected
+message. A second line says which part is left out, if the rest can be used."""
 from kinds import (SECTIONS, container, debug_stream, info_stream, item_stream, more_streams, string_stream, u32)
 
 CUT = "the bytes end before what is said to stand there"
 
 
 def streams(**changed):
-    """The streams of a file with no modules, with what is changed of them."""
+    """Returns the streams of a file without modules. Arguments replace some of them."""
     made = {"info": info_stream(), "types": item_stream([]), "debug": debug_stream(b"", b""), "ids": item_stream([]),
             "publics": b"", "sections": SECTIONS, "more": b""}
     made.update(changed)
@@ -14,12 +15,12 @@ def streams(**changed):
 
 
 def file_of(**changed):
-    """A function that gives the file with these streams."""
+    """Returns a function that builds the file with these streams."""
     return lambda: container(streams(**changed))
 
 
 def streams_too_long():
-    """A file whose directory says of the first stream that it is a byte longer than the file."""
+    """Returns a file whose directory says that the first stream is one byte longer than the file."""
     made = bytearray(file_of()())
     size, map_block = (int.from_bytes(made[at:at + 4], "little") for at in (32, 52))
     directory = size * int.from_bytes(made[size * map_block:size * map_block + 4], "little")
@@ -28,7 +29,7 @@ def streams_too_long():
 
 
 def old_types():
-    """A file whose types have the form from before 2005."""
+    """Returns a file whose types have the form from before 2005."""
     return container(streams(types=u32(19990903) + item_stream([])[4:]))
 
 

@@ -1,10 +1,10 @@
 #!/usr/bin/env python3
-"""Writes the PDB files of the stored run by their bytes, and what is wanted of them.
+"""Writes the PDB files of the stored run, byte by byte, and the expected output.
 
 Usage: write_files.py FOLDER
 
-FOLDER, that of the crate, gets the files `args` (the names of the PDB files, and of the records file that stands in
-`data`), `stdout` (what is wanted of all, one after the other), and `data/NAME` for each PDB file.
+FOLDER is the folder of the crate. It gets the file `args` (the names of the PDB files, and of the records file in
+`data`), the file `stdout` (the expected output for all of them, in order), and `data/NAME` for each PDB file.
 """
 import pathlib
 import sys

@@ -1,4 +1,4 @@
-"""A program for ARM64 with its PDB file, by their bytes, and its symbol file."""
+"""Builds an ARM64 program with its PDB file, byte by byte, and its symbol file."""
 import struct
 
 from frame_data import HERE, write_pdb
@@ -6,24 +6,25 @@ from kinds import more_streams, u8, u16, u32
 
 TEXT, DATA = (0x1000, 0x400), (0x2000, 0x600)
 
-# Unwind codes of a prologue, its last instruction first: mov x29, sp; stp x29, x30, [sp, #-48]!; stp x19, x20, [sp, #-16]!
+# The unwind codes of a prologue, last instruction first: mov x29, sp; stp x29, x30, [sp, #-48]!; stp x19, x20, [sp,
+# #-16]!
 CODES = u8(0xE1, 0x80 | 5, 0x20 | 2, 0xE4)
 
 
 def section(name, place):
-    """The header of a section of 512 bytes in memory and in the file."""
+    """Returns the header of a section of 512 bytes in memory and in the file."""
     rva, offset = place
     return name.ljust(8, b"\0") + u32(512, rva, 512, offset) + bytes(16)
 
 
 def directory(entries):
-    """The data directories, of which these are there."""
+    """Returns the data directories. Those without an entry are empty."""
     return b"".join(u32(*entries.get(number, (0, 0))) for number in range(16))
 
 
 def write_program():
-    """Writes arm64.exe and arm64.pdb: a function whose unwind info has one word of codes and no epilogue, and one whose
-    unwind data has a reserved flag."""
+    """Writes arm64.exe and arm64.pdb. One function's unwind info has one word of codes and no epilogue. Another
+    function's unwind data has a reserved flag."""
     headers = u8(0x4D, 0x5A).ljust(0x3C, b"\0") + u32(0x40) + b"PE\0\0"
     headers += u16(0xAA64, 2) + u32(0x01020304, 0, 0) + u16(240, 0)
     headers += (u16(0x20B).ljust(24, b"\0") + struct.pack("<Q", 0x140000000) + bytes(24) + u32(0x3000)).ljust(108, b"\0")
@@ -39,7 +40,7 @@ def write_program():
 
 
 def arm64_cases(error, ended):
-    """A case over it: each instruction of the prologue after which a rule changes has a record."""
+    """Yields a case. Each instruction of the prologue that changes a rule has a record after it."""
     write_program()
     yield "pdb_symbolizer --dump-syms arm64.exe", error(
         "arm64.exe: no unwind records at 0x1140: the unwind data has a reserved flag") + "".join(f"{row}\n" for row in (

@@ -1,4 +1,4 @@
-"""A PDB file of a program for x86 with frame data and FPO data, by its bytes, and its symbol file."""
+"""Builds a PDB file of an x86 program with frame data and FPO data, byte by byte, and its symbol file."""
 import pathlib
 import sys
 
@@ -9,10 +9,10 @@ from kinds import (SECTIONS, Symbols, container, contribution, debug_stream, inf
                    module_header, subsection, u8, u16, u32)
 from other_forms import SHORT  # noqa: E402
 
-# `void()`, by which the function is printed
+# The type `void()`, by which the function is printed.
 TYPES = [(0x1201, u32(0), None), (0x1008, u32(3) + u8(0, 0) + u16(0) + u32(0x1000), None)]
 
-# File names and programs, each at its offset; the third has a line break
+# File names and programs, each at its offset. The third program has a line break.
 NAMES = b"\0a.cpp\0"
 RETURN, SAVED, BROKEN = b"$T0 .raSearch = $eip $T0 ^ = \0", b"$ebx $T0 8 - ^ = \0", b"$T0\n\0"
 TEXTS = NAMES + RETURN + SAVED + BROKEN
@@ -21,12 +21,12 @@ AT_BROKEN = AT_SAVED + len(SAVED)
 
 
 def frame_data(rva, size, program, local_size=0, parameters=0, stack=0, prologue=0, saved=0):
-    """An entry of frame data."""
+    """Returns an entry of frame data."""
     return u32(rva, size, local_size, parameters, stack, program) + u16(prologue, saved) + u32(4)
 
 
 def fpo(rva, size, words, parameters, prologue, registers, base_pointer, frame):
-    """An entry of FPO data. Sizes are in units of four bytes, but for the prologue's."""
+    """Returns an entry of FPO data. Sizes are in units of four bytes, except the prologue's."""
     return u32(rva, size, words) + u16(parameters, prologue | registers << 8 | base_pointer << 12 | frame << 14)
 
 
@@ -38,7 +38,8 @@ FPO = [fpo(0x1100, 64, 0, 3, 0, 0, 0, 0), fpo(0x1180, 20, 3, 2, 5, 3, 1, 0), fpo
 
 
 def write_pdb(name, machine, more, others=()):
-    """Writes a PDB file: a function `f` of 64 bytes, line 10 of `a.cpp`, with these streams behind the module's."""
+    """Writes a PDB file with a function `f` of 64 bytes, in line 10 of `a.cpp`. The streams `others` follow the
+    module's."""
     symbols = Symbols(u32(4))
     symbols.put(0x1110, u32(0, 0, 0, 64, 0, 0, 0x1001, 0x100) + u16(1) + u8(0) + b"f\0", {"end": 0}, opens=4)
     symbols.close(6)
@@ -53,15 +54,15 @@ def write_pdb(name, machine, more, others=()):
 
 
 def write_frame_data():
-    """Writes frame_data.pdb: frame data behind four bytes, and FPO data that ends within an entry."""
+    """Writes frame_data.pdb. Its frame data follows a header of four bytes, and its FPO data ends inside an entry."""
     none = 65535
     more = u16(11, none, none, none, none, 9, none, none, none, 12)
     write_pdb("frame_data.pdb", 0x14C, more, [b"".join(FPO) + u32(1), u32(0) + b"".join(ENTRIES)])
 
 
 def frame_data_cases(error, ended):
-    """Cases over it: each entry has a record, or a line on standard error that says why not. The size of the function's
-    parameters is that of the frame data, though FPO data is over it too."""
+    """Yields cases. Each entry has a record, or a line on standard error with the reason. The function's parameter size
+    is that of the frame data, although an entry of FPO data covers the function too."""
     write_frame_data()
     left_out = "frame_data.pdb: no unwind records at 0x{:x}: {}"
     yield "pdb_symbolizer --dump-syms frame_data.pdb", "".join((

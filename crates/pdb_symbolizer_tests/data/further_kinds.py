@@ -1,5 +1,6 @@
-"""A PDB file with records that few compilers write, by its bytes, and what is answered of it: procedures of managed code
-and of Itanium, aliases of types, arrays with dimensions of their own, `std::nullptr_t`, and inlined code in chunks."""
+"""Builds a PDB file with records that few compilers write, byte by byte, and the expected answers. The records are
+procedures of managed code and for Itanium, type aliases, arrays with separate dimensions, `std::nullptr_t`, and inlined
+code in chunks."""
 import pathlib
 import sys
 
@@ -10,8 +11,9 @@ from kinds import (SECTIONS, Symbols, container, contribution, debug_stream, inf
                    module_header, put_site, string_stream, subsection, text, u8, u16, u32)
 from other_forms import SHORT  # noqa: E402
 
-# `void()`, `void(std::nullptr_t, COLORREF, float[0], std::nullptr_t[2])`: an array of two null pointers has 16 bytes,
-# and one whose dimensions another record has is of no known size. The last type is the shape of a table of functions.
+# `void()` and `void(std::nullptr_t, COLORREF, float[0], std::nullptr_t[2])`. An array of two null pointers has 16
+# bytes. An array whose dimensions are in another record has no known size. The last type is the shape of a virtual
+# function table.
 NULL_POINTER = 0x0103
 TYPES = [(0x1201, u32(0), None), (0x1008, u32(3) + u8(0, 0) + u16(0) + u32(0x1000), None),
          (0x150A, u32(0x75) + text(b"COLORREF"), None), (0x1508, u32(0x40, 0x1007) + text(b""), None),
@@ -20,20 +22,20 @@ TYPES = [(0x1201, u32(0), None), (0x1008, u32(3) + u8(0, 0) + u16(0) + u32(0x100
          (0x1008, u32(3) + u8(0, 0) + u16(4) + u32(0x1005), None), (0x000A, u16(1) + u8(5), None)]
 IDS = [(0x1601, u32(0, 0x1001) + text(b"inner"), None)]
 
-# Annotations by the numbers of their kinds: in a chunk (2), on by some bytes (3), the row's length (4)
+# Annotations, as pairs of a kind and a number: the chunk (2), the code offset (3), the row's length (4).
 IN_THE_FIRST_CHUNK = u8(2, 1, 3, 4, 4, 2)
 IN_THE_SECOND_CHUNK = u8(2, 2, 3, 4, 4, 2)
 IN_A_THIRD_CHUNK = u8(3, 8, 4, 1, 2, 3, 3, 4)
 
 
 def put(symbols, kind, offset, typed, name, behind=u8(0)):
-    """A procedure of 32 bytes in section 1, with what stands behind its section, up to its closing symbol."""
+    """Adds a procedure of 32 bytes in section 1, up to its closing symbol. The bytes `behind` follow its section."""
     content = u32(0, 0, 0, 32, 0, 0, typed, offset) + u16(1) + behind + text(name)
     symbols.put(kind, content, {"end": 0}, opens=4)
 
 
 def put_chunk(symbols, offset, site):
-    """16 bytes of code apart from the function at 0x180, with a site."""
+    """Adds a chunk of 16 bytes for the function at 0x180, with a site."""
     symbols.put(0x1132, u32(0, 0, 16, 0, offset, 0x180) + u16(1, 1), {"end": 0}, opens=4)
     put_site(symbols, 0x114D, 0x1000, site, [])
     symbols.close(0x114E)
@@ -41,7 +43,7 @@ def put_chunk(symbols, offset, site):
 
 
 def write_further_kinds():
-    """Writes further_kinds.pdb: its functions are in line 10 of `a.cpp`, and what was inlined begins at line 50."""
+    """Writes further_kinds.pdb. Its functions are in line 10 of `a.cpp`, and inlined code begins at line 50."""
     symbols = Symbols(u32(4))
     put(symbols, 0x112A, 0x100, 0x06000001, b"Form.Draw", u8(0) + u16(0))
     symbols.close(6)
@@ -65,14 +67,14 @@ def write_further_kinds():
 
 
 def further_kind_cases(error, ended):
-    """Cases over it: names and signatures; and inlined code in the chunks that its annotations name by their numbers. Of
-    a chunk that isn't there the rows before are answered."""
+    """Yields cases of names and signatures, and of inlined code in chunks that annotations name by number. If a chunk
+    doesn't exist, only the rows before it are answered."""
     write_further_kinds()
     apart = error("further_kinds.pdb: module a.obj: rows of 1 inline site end early: "
                   "code of an inlined body in a separated chunk")
 
     def inlined(name):
-        """A stack of what was inlined into a function."""
+        """Returns a stack with `inner` inlined into a function."""
         return f"inner() at a.cpp:50:0\n (inlined by) {name}() at a.cpp:10:0\n\n"
 
     yield "pdb_symbolizer -p further_kinds.pdb 0x1100 0x1120 0x1140", \

@@ -1,4 +1,4 @@
-"""A PDB file with inline sites whose rows end early, by its bytes, and what is answered of it."""
+"""Builds a PDB file with inline sites whose rows end early, byte by byte, and the expected answers."""
 import pathlib
 import sys
 
@@ -9,12 +9,12 @@ from kinds import (SECTIONS, Symbols, container, contribution, debug_stream, inf
                    module_header, put_site, string_stream, subsection, text, u8, u16, u32)
 from other_forms import SHORT  # noqa: E402
 
-# `void()`, by which functions and what was inlined are printed
+# The type `void()`, by which functions and inlined functions are printed.
 TYPES = [(0x1201, u32(0), None), (0x1008, u32(3) + u8(0, 0) + u16(0) + u32(0x1000), None)]
 IDS = [(0x1601, u32(0, 0x1001) + text(b"inner"), None)]
 
-# Annotations by the numbers of their kinds: on by some bytes (3), the row's length (4), code in a separated chunk (2).
-# No kind has the number 14, and a number that begins with 0x80 is none without its second byte.
+# Annotations, as pairs of a kind and a number: the code offset (3), the row's length (4), code in a separated chunk
+# (2). The kind 14 doesn't exist. A number that begins with 0x80 needs a second byte.
 APART_BEHIND_A_ROW = u8(3, 1, 4, 2, 2, 1)
 UNKNOWN_BEHIND_A_ROW = u8(3, 8, 4, 4, 14, 1)
 NO_NUMBER_BEHIND_A_ROW = u8(3, 4, 4, 2, 3, 0x80)
@@ -22,8 +22,8 @@ WHOLE = u8(3, 4, 4, 2)
 
 
 def module_of(offset, name, *sites):
-    """The symbols of a procedure of 32 bytes with these sites, and the module's file, rows and inlinees: the procedure
-    is line 10 of `a.cpp`, and what was inlined begins at line 50."""
+    """Returns the symbols of a procedure of 32 bytes with these sites, and the module's file, rows and inlinees. The
+    procedure is in line 10 of `a.cpp`, and inlined code begins at line 50."""
     symbols = Symbols(u32(4))
     content = u32(0, 0, 0, 32, 0, 0, 0x1001, offset) + u16(1) + u8(0) + name + b"\0"
     symbols.put(0x1110, content, {"end": 0}, opens=4)
@@ -38,8 +38,8 @@ def module_of(offset, name, *sites):
 
 
 def write_inline_faults():
-    """Writes inline_faults.pdb: of three modules the first has two sites whose rows end early, the second one, and the
-    third one none."""
+    """Writes inline_faults.pdb. Of its three modules, the first has two sites whose rows end early, the second has one,
+    and the third has none."""
     modules = [(b"a.obj", module_of(0x100, b"f", APART_BEHIND_A_ROW, UNKNOWN_BEHIND_A_ROW, WHOLE)),
                (b"b.obj", module_of(0x200, b"g", NO_NUMBER_BEHIND_A_ROW)), (b"c.obj", module_of(0x300, b"h", WHOLE))]
     headers = b"".join(module_header(10 + at, len(symbols), len(code), name)
@@ -51,8 +51,8 @@ def write_inline_faults():
 
 
 def inline_fault_cases(error, ended):
-    """Cases over it: rows before a fault are answered, and each module that is asked for has one line, which says its
-    first fault and how many of its sites have one."""
+    """Yields cases. Rows before a fault are answered. Each module that a lookup reads has one line, with its first
+    fault and the number of its sites that have one."""
     write_inline_faults()
     first = error("inline_faults.pdb: module a.obj: rows of 2 inline sites end early: "
                   "code of an inlined body in a separated chunk")
@@ -60,7 +60,7 @@ def inline_fault_cases(error, ended):
                    "a number or a kind that can't stand there")
 
     def inlined(name):
-        """A stack of what was inlined into a function."""
+        """Returns a stack with `inner` inlined into a function."""
         return f"inner() at a.cpp:50:0\n (inlined by) {name}() at a.cpp:10:0\n\n"
 
     yield "pdb_symbolizer -p inline_faults.pdb 0x1100 0x1101 0x1102 0x1108 0x110b 0x1110", \

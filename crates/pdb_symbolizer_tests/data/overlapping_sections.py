@@ -1,4 +1,4 @@
-"""A PDB file with two sections over the same addresses, by its bytes, and its symbol file."""
+"""Builds a PDB file with two overlapping sections, byte by byte, and its symbol file."""
 import pathlib
 import sys
 
@@ -9,15 +9,16 @@ from kinds import (Symbols, container, contribution, debug_stream, info_stream, 
                    section_header, string_stream, subsection, u8, u16, u32)
 from other_forms import SHORT  # noqa: E402
 
-# `void()`, by which the function is printed
+# The type `void()`, by which the function is printed.
 TYPES = [(0x1201, u32(0), None), (0x1008, u32(3) + u8(0, 0) + u16(0) + u32(0x1000), None)]
 
-# The last 32 bytes of the first section, which holds no code, are the first of the second one.
+# The last 32 bytes of the first section, which has no code, are the first 32 bytes of the second one.
 SECTIONS = section_header(0x1000, 0x120, 0x40000040) + section_header(0x1100, 0x100, 0x60000020)
 
 
 def write_overlapping_sections():
-    """Writes overlapping_sections.pdb: a function `f` of 64 bytes, line 10 of `a.cpp`, begins with the second section."""
+    """Writes overlapping_sections.pdb. A function `f` of 64 bytes, in line 10 of `a.cpp`, is at the start of the second
+    section."""
     symbols = Symbols(u32(4))
     symbols.put(0x1110, u32(0, 0, 0, 64, 0, 0, 0x1001, 0) + u16(2) + u8(0) + b"f\0", {"end": 0}, opens=4)
     symbols.close(6)
@@ -30,8 +31,8 @@ def write_overlapping_sections():
 
 
 def overlapping_section_cases(ended):
-    """Cases over it: an address belongs to the first section that holds it, in which the function has no code, so the
-    function is known from its 33rd byte on."""
+    """Yields cases. An address belongs to the first section that contains it. The function has no code in the first
+    section, so it is found from its 33rd byte on."""
     write_overlapping_sections()
     yield "pdb_symbolizer -p overlapping_sections.pdb 0x1100 0x111f 0x1120 0x113f 0x1140", \
         2 * "?? at ??:0:0\n\n" + 2 * "f() at a.cpp:10:0\n\n" + "?? at ??:0:0\n\n" + ended

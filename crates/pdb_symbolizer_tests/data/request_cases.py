@@ -1,7 +1,7 @@
-"""Cases of requests of the symbolication API, with what is wanted of them, for write_cases.py.
+"""Cases of requests of the symbolication API, with the expected output, for write_cases.py.
 
-Frames are those that llvm-symbolizer answers for shapes.exe, as write_cases.py has them; all else is written here by
-hand, from docs/FORMATS.md.
+The frames of shapes.exe are those of llvm-symbolizer, which write_cases.py passes. All else is written here by hand,
+from docs/FORMATS.md.
 """
 import json
 import pathlib
@@ -10,23 +10,24 @@ HERE = pathlib.Path(__file__).resolve().parent
 ID, OTHER, BROKEN = ("6B32B94164959A524C4C44205044422E1", "A9D98A29E7C186D04C4C44205044422E1",
                      "030201000504070608090A0B0C0D0E0F1")
 SHAPES = ["shapes.pdb", ID]
-# Of bytes behind a procedure, which are of the public symbol before them, that symbol's address
+# Bytes after a procedure belong to the public symbol before them. This is that symbol's address.
 PUBLIC_STARTS = {"?count@Picture@@SAHPEBD@Z": 0x1000, "entry": 0x1020, "?draw@Framed@@UEAAHH@Z": 0x1110,
                  "?area@shapes@@YAHPEBUPoint@1@H@Z": 0x1190}
 
 
 def text(value):
-    """A value as JSON, with nothing between its parts."""
+    """Formats a value as JSON without white space."""
     return json.dumps(value, separators=(",", ":"), ensure_ascii=False)
 
 
 def frame(number, module, offset, known=None):
-    """A frame of an answer, with what is known of it."""
+    """Returns a frame of an answer, with the members in `known`."""
     return {"frame": number, "module": module, "module_offset": f"0x{offset:x}", **(known or {})}
 
 
 def known_of(start, offset, stack):
-    """What is known at an offset: a function, the innermost of a stack first, which has it first itself."""
+    """Returns the members of a frame at an offset. The stack has the function itself first. `inlines` has the innermost
+    call first."""
     (name, file, line), *inlined = stack
     known = {"function": name, "function_offset": f"0x{offset - start:x}", "file": file, "line": line}
     if inlined:
@@ -35,39 +36,39 @@ def known_of(start, offset, stack):
 
 
 def answer(*jobs):
-    """The line of an answer, of the stacks of each job and its modules."""
+    """Returns the line of an answer, from the stacks and the modules of each job."""
     return text({"results": [{"stacks": stacks, "found_modules": modules} for stacks, modules in jobs]}) + "\n"
 
 
 def job(memory_map, *stacks):
-    """A job of a request."""
+    """Returns a job of a request."""
     return {"memoryMap": memory_map, "stacks": list(stacks)}
 
 
 def asked(request, words="--pdb-dir ."):
-    """The line of a case."""
+    """Returns the line of a case."""
     return f"pdb_symbolizer --symbolicate {words} < " + (request if isinstance(request, str) else text(request))
 
 
 class Shapes:
-    """What is known of shapes.exe at its addresses."""
+    """The expected frames of shapes.exe."""
 
     def __init__(self, found, procedure_at):
         self.found, self.procedure_at = found, procedure_at
 
     def known(self, offset):
-        """What is known at an offset."""
+        """Returns the members of the frame at an offset."""
         stack = self.found[offset]
         start = self.procedure_at(offset)
         return known_of(PUBLIC_STARTS[stack[0][0]] if start is None else start, offset, stack)
 
     def frames(self, *offsets, module="shapes.pdb"):
-        """The frames at these offsets."""
+        """Returns the frames at these offsets."""
         return [frame(number, module, offset, self.known(offset)) for number, offset in enumerate(offsets)]
 
 
 def module_cases(shapes, short):
-    """Modules in folders, by their names and ids."""
+    """Yields cases of modules in folders, with different names and ids."""
     offsets = (0x1136, 0x1000, 0x10b0, 0x119f, 0x1213, 0x1278)
     stack = [[0, offset] for offset in offsets]
     wanted = shapes.frames(*offsets)
@@ -96,7 +97,7 @@ def module_cases(shapes, short):
 
 
 def unknown_cases():
-    """Modules that aren't found, and addresses at which nothing is known."""
+    """Yields cases of modules that aren't found, and of addresses without an answer."""
     for words, module in (("", SHAPES), ("--pdb-dir nowhere", SHAPES), ("--pdb-dir .", ["shapes.pdb", OTHER]),
                           ("--pdb-dir .", ["shapes.pdb", ID[:-1] + "2"]), ("--pdb-dir .", ["shapes.pdb", "zz"]),
                           ("--pdb-dir .", ["shapes.pdb", ""]), ("--pdb-dir .", ["nowhere.pdb", ID]),
@@ -120,7 +121,7 @@ def unknown_cases():
 
 
 def broken_cases(error, rows):
-    """Files in which something is broken, or over which nothing can be answered."""
+    """Yields cases of files with broken parts, and of a file that can't be used."""
     known = {"function": "?f@@YAXXZ", "function_offset": "0x30"}
     yield asked(job([["broken_parts.pdb", BROKEN]], [[0, 0x1050]])), \
         "".join(error(f"./broken_parts.pdb: {row}") for row in rows) + answer(
@@ -130,7 +131,7 @@ def broken_cases(error, rows):
             ([[frame(0, "stripped.pdb", 0x1136)]], {f"stripped.pdb/{BROKEN}": False}))
 
 
-# What is no request, and what is wrong with it
+# Texts that are not valid requests, with the fault.
 MALFORMED = [
     ("", "not a JSON text"), ("{", "not a JSON text"), ('{"jobs":[]} x', "not a JSON text"),
     ("[" * 200 + "]" * 200, "not a JSON text"), ("[]", ": wanted object"), ("7", ": wanted object"),
@@ -158,7 +159,7 @@ MALFORMED = [
 
 
 def malformed_cases(error):
-    """Texts that are no requests, and words that go with none."""
+    """Yields cases of texts that are not valid requests, and of arguments that no request may have."""
     for request, why in MALFORMED:
         yield asked(request), text({"error": why}) + "\n" + error(f"no request: {why}") + "status 2\n"
     for words in ("--symbolicate shapes.pdb", "--symbolicate-lines shapes.pdb 0x1136", "--symbolicate -e shapes.exe"):
@@ -166,7 +167,7 @@ def malformed_cases(error):
 
 
 def line_cases(shapes, error):
-    """A request on each line."""
+    """Yields cases with one request per line."""
     start = "pdb_symbolizer --symbolicate-lines --pdb-dir . < "
     good, wanted = text(job([SHAPES], [[0, 0x1136]])), answer(([shapes.frames(0x1136)], {f"shapes.pdb/{ID}": True}))
     wrong = text({"error": "/jobs: wanted array"}) + "\n"
@@ -178,19 +179,19 @@ def line_cases(shapes, error):
     yield "pdb_symbolizer --symbolicate-lines", "status 0\n"
 
 
-# What arm64_program.py writes: a function of 64 bytes at 0x1100, all on one line
+# The function that arm64_program.py writes: 64 bytes at 0x1100, all in one line.
 ARM64 = {"function": "f()", "function_offset": "0x4", "file": "a.cpp", "line": 10}
 
 
 def arm64_case(name, words):
-    """A request for arm64.pdb under a name in a folder."""
+    """Returns a case of a request for arm64.pdb, under a name in a folder."""
     return asked(job([[name, BROKEN]], [[0, 0x1104]]), words), \
         answer(([[frame(0, name, 0x1104, ARM64)]], {f"{name}/{BROKEN}": True})) + "status 0\n"
 
 
 def store_cases(error, rows, written):
-    """Stores as symbol servers have them: in two tiers, under names in other case, and with compressed files. `written`
-    takes the path and the bytes of a file beside this."""
+    """Yields cases of symbol stores: with two tiers, with names in another case, and with compressed files. `written`
+    writes a file at a path in this folder."""
     arm64, broken = ((HERE / name).read_bytes() for name in ("arm64.pdb", "broken_parts.pdb"))
     written("tiers/index2.txt", b"")
     written(f"tiers/ar/arm64.pdb/{BROKEN}/arm64.pdb", arm64)
@@ -230,7 +231,7 @@ def store_cases(error, rows, written):
 
 
 def known_offset_cases(shapes):
-    """Lines that ask at offsets which lines before them asked at, and at others."""
+    """Yields cases of lines with offsets of earlier lines, and with new ones."""
     lines = ((0x1136, 0x1000), (0x1000, 0x10b0), (0x10b0, 0x1136, 0x1000), (0x10, 0x1213, 0x10b0), (0x1213, 0x10))
     requests = "|".join(text(job([SHAPES], [[0, offset] for offset in line])) for line in lines)
     answers = "".join(answer(([[frame(number, "shapes.pdb", offset, None if offset == 0x10 else shapes.known(offset))
@@ -240,7 +241,8 @@ def known_offset_cases(shapes):
 
 
 def kept_cases(error, rows):
-    """Files that stay open from one line to the next, and files that are closed at once and so tell anew what is broken."""
+    """Yields cases of files that stay open from one line to the next, and of files that are closed at once. The latter
+    report their broken parts again."""
     known = {"function": "?f@@YAXXZ", "function_offset": "0x30"}
     request = text(job([["broken_parts.pdb", BROKEN]], [[0, 0x1050]]))
     found = answer(([[frame(0, "broken_parts.pdb", 0x1050, known)]], {f"broken_parts.pdb/{BROKEN}": True}))
@@ -261,7 +263,7 @@ def kept_cases(error, rows):
 
 
 def request_cases(whole, short, procedure_at, error, broken_rows, written):
-    """All cases. Each that isn't refused ends with the status 0."""
+    """Yields all cases. Those that aren't refused end with status 0."""
     shapes = Shapes(whole, procedure_at)
     for line, wanted in (*module_cases(shapes, Shapes(short, procedure_at)), *unknown_cases(),
                          *broken_cases(error, broken_rows)):

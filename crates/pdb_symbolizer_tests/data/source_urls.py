@@ -1,4 +1,4 @@
-"""A PDB file that says where its source files can be fetched, by its bytes, and what is answered of it."""
+"""Builds a PDB file that says where its source files can be downloaded, byte by byte, and the expected answers."""
 import json
 import pathlib
 import sys
@@ -14,11 +14,11 @@ from other_forms import SHORT  # noqa: E402
 MAIN, INNER, OTHER = "C:\\Work\\App\\a b\\Main.cpp", "D:\\lib\\inner.h", "E:\\x.cpp"
 NAMES = b"\0" + b"".join(name.encode() + b"\0" for name in (MAIN, INNER, OTHER))
 
-# A map of Source Link. The longer path fits MAIN, too; what has no star fits nothing else
+# A Source Link map. Two of its patterns match MAIN, and the longer one wins. A path without a star matches only itself.
 LINKS = {"documents": {"C:\\work\\*": "https://example.com/work/*", "c:\\WORK\\app\\*": "https://example.com/raw/c0ffee/*",
                        "C:\\Work\\App\\a b\\Main": "https://example.com/none"}}
 
-# Source server data, which has a line for INNER
+# Source server data, which has a line for INNER.
 SERVER = """SRCSRV: ini ------------------------------------------------\r
 VERSION=2\r
 SRCSRV: variables ------------------------------------------\r
@@ -33,7 +33,7 @@ INNER_URL = "https://lib.example/v7/include/inner.h"
 
 
 def info_stream(names):
-    """The info stream, with the numbers of these streams by their names."""
+    """Returns the info stream, with these names and numbers of streams."""
     texts = b"".join(name + b"\0" for name in names)
     pairs = b"".join(u32(texts.index(name + b"\0"), number) for name, number in names.items())
     table = u32(len(texts)) + texts + u32(len(names), len(names), 1, (1 << len(names)) - 1, 0) + pairs
@@ -41,7 +41,8 @@ def info_stream(names):
 
 
 def module():
-    """A procedure `f` of MAIN, with an inline site of INNER at its fifth byte, and a procedure `g` of OTHER after it."""
+    """Returns a module with a procedure `f` of MAIN, an inline site of INNER at its fifth byte, and a procedure `g` of
+    OTHER after it."""
     symbols = Symbols(u32(4))
     for offset, name in ((0x100, b"f"), (0x120, b"g")):
         symbols.put(0x1110, u32(0, 0, 0, 32, 0, 0, 0x1001, offset) + u16(1) + u8(0) + name + b"\0", {"end": 0}, opens=4)
@@ -70,7 +71,7 @@ def write_sources(name, links):
 
 
 def frame(file, function, line, url):
-    """A frame as JSON has it."""
+    """Returns a frame as JSON has it."""
     members = {"Column": 0, "Discriminator": 0, "FileName": file, "FunctionName": function, "Line": line}
     if url:
         members["SourceUrl"] = url
@@ -78,7 +79,7 @@ def frame(file, function, line, url):
 
 
 def source_url_cases(ended):
-    """Cases over it: Source Link for MAIN, source server data for INNER, and nothing for OTHER."""
+    """Yields cases: Source Link answers for MAIN, source server data for INNER, and nothing for OTHER."""
     write_sources("sources.pdb", b"\xef\xbb\xbf" + json.dumps(LINKS).encode())
     write_sources("broken_links.pdb", b'{"documents": ')
     inner, outer = f"inner() at {INNER}:50:0", f"f() at {MAIN}:10:0"

@@ -1,7 +1,8 @@
 #!/usr/bin/env python3
-"""The STACK CFI records of an x64 program, by its unwind tables and its code, written from the rules alone.
+"""Makes the STACK CFI records of an x64 program from its unwind tables and its code. It is written from the rules
+alone.
 
-Usage: stack_records.py PROGRAM     prints them. write_cases.py has what is wanted from here
+Usage: stack_records.py PROGRAM     prints them. write_cases.py takes the expected records from here
 """
 import struct
 import sys
@@ -10,7 +11,7 @@ REGS = ["rax", "rcx", "rdx", "rbx", "rsp", "rbp", "rsi", "rdi"] + [f"r{n}" for n
 
 
 class Image:
-    """The file of a program, with its sections and its exception directory."""
+    """A program's file, with its sections and its exception directory."""
     def __init__(self, data):
         self.data = data
         headers = struct.unpack_from("<I", data, 0x3C)[0]
@@ -31,14 +32,14 @@ class Image:
                 self.code.append(self.loaded[-1])
 
     def rest(self, rva):
-        """The bytes from an address on, up to the end of its section."""
+        """Returns the bytes from an address to the end of its section."""
         for start, length, offset in self.sections:
             if start <= rva < start + length:
                 return self.data[offset:offset + length][rva - start:]
         return b""
 
     def read(self, rva, size):
-        """So many bytes at an address."""
+        """Returns `size` bytes at an address."""
         found = self.rest(rva)[:size]
         if len(found) < size:
             raise ValueError(f"no bytes at {rva:x}")
@@ -46,14 +47,14 @@ class Image:
 
 
 def entries(image):
-    """The entries of the exception directory."""
+    """Returns the entries of the exception directory."""
     rva, size = image.directory
     data = image.rest(rva)[:size]
     return [struct.unpack_from("<III", data, at) for at in range(0, len(data) - 11, 12)]
 
 
 def info(image, rva):
-    """What the unwind info at an address says."""
+    """Reads the unwind info at an address."""
     if rva & 1:
         rva = struct.unpack("<III", image.read(rva & ~1, 12))[2]
     first, prologue, count, frame = image.read(rva, 4)
@@ -104,14 +105,14 @@ def info(image, rva):
 
 
 def finish(base, k, saved, trapped):
-    """The rules where the stack pointer is that many bytes above a register."""
+    """Returns the rules if the stack pointer at the return address is `k` bytes above a register."""
     if trapped:
         return {"cfa": ("load", base, k + 24), "ra": (base, k), "saved": saved}
     return {"cfa": ("sum", base, k + 8), "ra": (base, k), "saved": saved}
 
 
 def body(image, own, offset):
-    """The rules at an offset outside of epilogues."""
+    """Returns the rules at an offset outside of epilogues."""
     base, k, saved, trapped = 4, 0, {}, False
     inside = offset < own["prologue"]
     chain, current, first = [], own, True
@@ -140,12 +141,12 @@ def body(image, own, offset):
 
 
 def signed(data):
-    """A number with a sign."""
+    """Reads a signed number."""
     return int.from_bytes(data, "little", signed=True)
 
 
 def epilogue(code, own, begin, end, at):
-    """The rule of an epilogue of version 1 that begins at the front of this code."""
+    """Returns the rules of a version 1 epilogue at the start of this code, or None if no epilogue is there."""
     base, k, saved = 4, 0, {}
     frame = own["frame"][0]
     left = code
@@ -184,7 +185,7 @@ def epilogue(code, own, begin, end, at):
 
 
 def epilogue2(image, own, length, offset):
-    """The rule of an epilogue of version 2 at an offset."""
+    """Returns the rules at an offset in a version 2 epilogue, or None if the offset is in none."""
     if not own["epilogs"]:
         return None
     size, flag = own["epilogs"][0]
@@ -204,7 +205,7 @@ def epilogue2(image, own, length, offset):
 
 
 def rule(image, own, begin, end, code, offset):
-    """The rules at an offset of a function."""
+    """Returns the rules at an offset of a function."""
     chained = own["parent"] is not None
     if own["version"] == 2:
         found = epilogue2(image, own, end - begin, offset)
@@ -218,14 +219,14 @@ def rule(image, own, begin, end, code, offset):
 
 
 def term(base, k, cfa):
-    """The expression of what is saved at a place."""
+    """Returns the expression for a value that is saved at a place."""
     if cfa[0] == "sum" and cfa[1] == base:
         return f".cfa {cfa[2] - k} - ^"
     return f"${REGS[base]} {k} + ^"
 
 
 def words(found, mentioned):
-    """The rules as records have them, by their registers."""
+    """Returns the rules by register, as records have them."""
     kind, base, k = found["cfa"]
     rules = [(".cfa", f"${REGS[base]} {k} +" + (" ^" if kind == "load" else ""))]
     rules.append((".ra", term(*found["ra"], found["cfa"])))
@@ -237,7 +238,7 @@ def words(found, mentioned):
 
 
 def refuse_long_chains(image, own):
-    """Refuses an info that is chained to more than 32 others."""
+    """Refuses an info with a chain of more than 32 others."""
     for _ in range(32):
         if not own["parent"]:
             return
@@ -247,7 +248,7 @@ def refuse_long_chains(image, own):
 
 
 def code_of(image, reach, begin, end):
-    """The code of a function, behind those that reach up to an address."""
+    """Returns the code of a function. Refuses one that starts before the end of an earlier function."""
     if end <= begin:
         raise ValueError("empty")
     code = image.read(begin, end - begin)
@@ -257,7 +258,7 @@ def code_of(image, reach, begin, end):
 
 
 def code_ranges(image):
-    """The ranges of sections that can be executed, without those that begin before the end of a section before them."""
+    """Yields the ranges of executable sections. A section that starts before the end of an earlier one is left out."""
     ends = [min(rva + size, 2**32 - 1) for _, rva, size in image.loaded]
     for number, rva, size in image.code:
         if all(end <= rva for end in ends[:number]):
@@ -265,7 +266,7 @@ def code_ranges(image):
 
 
 def leaf_records(image):
-    """The records of code that no entry covers, but for padding: fewer than 16 bytes of int3."""
+    """Yields records for code that no entry covers. Padding is left out: fewer than 16 bytes, all int3."""
     covering = [(begin, end) for begin, end, _ in entries(image) if begin < end]
     if any(begin < end for (_, end), (begin, _) in zip(covering, covering[1:])):
         return
@@ -279,7 +280,7 @@ def leaf_records(image):
 
 
 def stack_records(data):
-    """The records of a program's file, and why functions have none."""
+    """Returns the records of a program, and the reasons why functions have none."""
     image, rows, left_out, reach = Image(data), [], [], 0
     for begin, end, unwind in entries(image) if image.is_x64 else []:
         try:

@@ -1,32 +1,33 @@
-"""The stacks of all addresses of shapes.exe, for write_cases.py: those of llvm-symbolizer, but for one line that it has
-otherwise."""
+"""The stacks at all addresses of shapes.exe, for write_cases.py. They are those of llvm-symbolizer, except for one
+line."""
 import json
 import pathlib
 import subprocess
 
 HERE = pathlib.Path(__file__).resolve().parent
-# The procedures of shapes.exe by their starts, with their lengths and their arguments, as its sources and
-# `llvm-pdbutil dump --symbols` have them
+# The procedures of shapes.exe by their starts, with their lengths and arguments, from its sources and `llvm-pdbutil
+# dump --symbols`.
 PROCEDURES = {0x1000: (29, "(char const*)"), 0x1020: (186, "()"), 0x10e0: (35, "(Colour, Bits)"), 0x1110: (62, "(int)"),
               0x1150: (50, "(int)"), 0x1190: (198, "(shapes::Point const*, int)"),
               0x1260: (45, "(shapes::Point const&, unsigned char)")}
-# Those of the functions that are inlined
+# The arguments of the functions that are inlined.
 ARGUMENTS = {"Framed::Framed": "()", "Picture::Picture": "()", "Picture::draw": "(int)", "shapes::Point::length": "() const",
              "shapes::Point::moved": "(int) const", "`anonymous namespace'::Walker::walk": "(shapes::Point const&)",
              "`anonymous namespace'::doubled": "(int)", "shapes::Counter<int>::add": "(int)",
              "shapes::Counter<int>::mean": "() const", "shapes::Counter<long long>::add": "(long long)",
              "shapes::Counter<long long>::mean": "() const"}
-# The bytes behind procedures up to the next one of their contribution: the last public symbol before them, and its last
-# row. `paint` is static and has none, so what stands behind it is of `entry`
+# The bytes between procedures of one contribution: start, end, the last public symbol before them, and its last row.
+# `paint` is static and has no public symbol, so the bytes after it belong to `entry`.
 BETWEEN = [(0x101d, 0x1020, "?count@Picture@@SAHPEBD@Z", "main.cpp", 44), (0x10da, 0x10e0, "entry", "main.cpp", 57),
            (0x1103, 0x1110, "entry", "main.cpp", 57), (0x114e, 0x1150, "?draw@Framed@@UEAAHH@Z", "main.cpp", 36),
            (0x1256, 0x1260, "?area@shapes@@YAHPEBUPoint@1@H@Z", "shapes.cpp", 31)]
-# Where two rows stand: LLVM answers the first there, and here the second has all bytes from there on
+# Two rows start at this address. LLVM answers the first row there. Here the second one wins.
 TWO_ROWS = 0x10e0
 
 
 def stacks(folder):
-    """The stack of each address of shapes.exe, the function itself first: that of LLVM, but for the line at TWO_ROWS."""
+    """Returns the stack at each address of shapes.exe, the function itself first. It is LLVM's, except for the line at
+    TWO_ROWS."""
     addresses = [address for start, (length, _) in PROCEDURES.items() for address in range(start, start + length)]
     words = ["--obj=shapes.exe", "--relative-address", "--functions=short", "--output-style=JSON"]
     printed = subprocess.run(["llvm-symbolizer-22", *words], input="".join(f"{address}\n" for address in addresses),
@@ -40,12 +41,12 @@ def stacks(folder):
 
 
 def with_arguments(found):
-    """The same stacks with the names that have arguments."""
+    """Yields the same stacks with arguments in the names."""
     for address, [(name, *place), *inlined] in found.items():
         _, arguments = PROCEDURES.get(procedure_at(address), (0, ""))
         yield address, [(name + arguments, *place), *((name + ARGUMENTS[name], *rest) for name, *rest in inlined)]
 
 
 def procedure_at(address):
-    """Where the procedure starts that an address lies in, or None where it lies in none."""
+    """Returns the start of the procedure that contains an address, or None."""
     return next((start for start, (length, _) in PROCEDURES.items() if start <= address < start + length), None)

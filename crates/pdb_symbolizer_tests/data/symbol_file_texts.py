@@ -1,11 +1,11 @@
-"""Breakpad symbol files of stacks, for write_cases.py."""
+"""Breakpad symbol files from stacks, for write_cases.py."""
 import itertools
 
 from stacks import procedure_at
 
 
 def runs(found, key):
-    """The runs of consecutive addresses of one key, with the key: first address, how many, key."""
+    """Yields the runs of consecutive addresses with one key: first address, number of addresses, key."""
     grouped = itertools.groupby(enumerate(found), lambda pair: (pair[1] - pair[0], key(pair[1])))
     for (_, value), members in grouped:
         addresses = [address for _, address in members]
@@ -13,19 +13,19 @@ def runs(found, key):
 
 
 def calls(stack, level, files, origins):
-    """The calls of a stack down to a level, each with its line, its file and the function's name; nothing where it has
-    none at that level."""
+    """Returns the calls of a stack down to a level, each with its line, its file and the function. Returns None if the
+    stack has no call at that level."""
     pairs = list(zip(stack, stack[1:]))
     return tuple((outer[2], files[outer[1]], origins[inner[0]]) for outer, inner in pairs[:level + 1]) if len(pairs) > level else None
 
 
 def numbers(names):
-    """Numbers of names by where they come first."""
+    """Numbers the names in the order in which they first occur."""
     return {name: number for number, name in enumerate(dict.fromkeys(names))}
 
 
 def function_records(start, found, files, origins):
-    """The records of one function."""
+    """Yields the records of one function."""
     yield f"FUNC {start:x} {len(found):x} 0 {found[start][0][0]}"
     deepest = max(map(len, found.values())) - 1
     inlines = [(first, level, count, chain[-1]) for level in range(deepest)
@@ -37,7 +37,7 @@ def function_records(start, found, files, origins):
 
 
 def symbol_file(front, found):
-    """The symbol file of these stacks, behind the records in front."""
+    """Returns the symbol file of these stacks. It begins with the records `front`."""
     files = numbers(frame[1] for stack in found.values() for frame in stack)
     origins = numbers(frame[0] for stack in found.values() for frame in stack[1:])
     rows = [*front, *(f"FILE {number} {name}" for name, number in files.items()),

@@ -1,4 +1,4 @@
-"""PDB files of which the types, the ids or the public symbols can't be read, and what is answered of them."""
+"""Builds PDB files whose types, ids or public symbols can't be read, and the expected answers."""
 import pathlib
 import sys
 
@@ -14,7 +14,7 @@ ADDRESSES = "0x1100 0x1104"
 
 
 def file_of(types=item_stream(TYPES), ids=item_stream(IDS), symbols=b"", symbol_stream=8):
-    """A file of one module, with a procedure `f` into which `inner` is inlined at its fifth byte."""
+    """Returns a file of one module, with a procedure `f`. `inner` is inlined at its fifth byte."""
     module, code = module_of(0x100, b"f", WHOLE)
     header = module_header(10, len(module), len(code), b"a.obj")
     debug = debug_stream(header, u32(SHORT) + contribution(1, 0x100, 0x20, 0))
@@ -34,14 +34,14 @@ FILES = {
                                    "public symbols are left out: the file has no such stream"),
 }
 
-# The names of `f` and of `inner`: without types a function goes by its symbol's name, and an inlined function has no
-# name. Without ids an inlined function has no name either
+# The names of `f` and `inner`. Without types, a function is named by its symbol. An inlined function has no name if
+# types or ids can't be read.
 NAMES = {"old_types.pdb": ("f", "??"), "no_types.pdb": ("f", "??"), "empty_types.pdb": ("f", "??"),
          "cut_ids.pdb": ("f()", "??")}
 
 
 def unread_part_cases(error, ended):
-    """Cases over them: a line says what can't be read, and all else is answered."""
+    """Yields cases. A line says what can't be read, and the rest is answered."""
     for name, (content, why) in FILES.items():
         (HERE / name).write_bytes(content)
         outer, inner = NAMES.get(name, ("f()", "inner()"))

@@ -1,6 +1,6 @@
 #!/bin/sh
-# Builds the program of this folder by clang and lld, with its PDB file, in a scratch folder, and copies
-# the PDB file and what llvm-symbolizer of LLVM 22 prints of addresses beside this script. No gate runs this.
+# Builds the program of this folder with clang and lld in a temporary folder, and copies the program and its PDB file to
+# the folder above this one.
 set -e
 here=$(cd "$(dirname "$0")" && pwd)
 work=$(mktemp -d)

@@ -1,7 +1,11 @@
 #!/bin/sh
-# Builds a program of a thousand functions, with bodies inlined up to six deep, by clang and lld for x86_64, x86 and Arm64
-# in the folder that is named: many-TARGET.exe, its PDB file, and a file with each SPACING-th address of its procedures.
-# It wants the Debian packages clang, lld and llvm. No gate runs this.
+# Builds a program of a thousand functions, with bodies inlined up to six deep, with clang and lld.
+#
+# Usage: many.sh FOLDER [SPACING]
+#
+# For each target (x86_64, i686, aarch64), FOLDER gets many-TARGET.exe, its PDB file, and the file
+# many-TARGET.addresses. That file has every SPACING-th address (5) of its procedures. The script needs the Debian
+# packages clang, lld and llvm.
 set -e
 folder=$1
 spacing=${2:-5}

@@ -1,6 +1,9 @@
 #!/bin/sh
-# Builds a program with a thunk, which lld makes for a function that it imports, in the folder that is named. It wants the
-# Debian packages clang, lld and llvm. No gate runs this.
+# Builds a program with a thunk, which lld makes for an imported function.
+#
+# Usage: thunk.sh FOLDER
+#
+# The script needs the Debian packages clang, lld and llvm.
 set -e
 mkdir -p "$1"
 cd "$1"

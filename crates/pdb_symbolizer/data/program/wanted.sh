@@ -1,7 +1,7 @@
 #!/bin/sh
-# Writes the addresses of the program's functions into ../../stdin, but for the one at which two rows stand, as
-# docs/CONTAINER.md explains, and what llvm-symbolizer of LLVM 22 prints of them into ../../stdout. It wants shapes.exe,
-# which build.sh leaves here. No gate runs this.
+# Writes the addresses of the program's functions to ../../stdin, and llvm-symbolizer's answers (LLVM 22) to
+# ../../stdout. It leaves out 0x10e0, which has two line rows (docs/CONTAINER.md). shapes.exe and shapes.pdb must be in
+# the folder above this one, where build.sh puts them.
 set -e
 here=$(cd "$(dirname "$0")" && pwd)
 cd "$here/.."

@@ -1,8 +1,11 @@
 #!/bin/sh
-# Builds words.cpp by clang and lld with mingw's library, into words-0.exe (not optimised: thousands of procedures) and
-# words-1.exe (thousands of inlined bodies), each with its PDB file, in the folder that is named, and writes beside each a
-# file of addresses: each SPACING-th address of its procedures. It wants the Debian packages clang, lld, llvm and
-# g++-mingw-w64-x86-64-posix. No gate runs this.
+# Builds words.cpp with clang, lld and mingw's library.
+#
+# Usage: words.sh FOLDER [SPACING]
+#
+# FOLDER gets words-0.exe (not optimised, with thousands of procedures) and words-1.exe (with thousands of inlined
+# bodies), each with its PDB file. It also gets a file of addresses for each, with every SPACING-th address (29) of its
+# procedures. The script needs the Debian packages clang, lld, llvm and g++-mingw-w64-x86-64-posix.
 set -e
 here=$(cd "$(dirname "$0")" && pwd)
 folder=$1
