@@ -1,9 +1,9 @@
 #!/bin/sh
-# Copies crates into a repository of your own, with all that they stand on and their lines of crates.txt.
+# Copies crates into a repository of your own, with their dependencies and their lines of crates.txt.
 #
 # Usage: examples/copy_crates.sh FOLDER CRATE ..
 #
-# FOLDER is the top of the repository. Crates that are there already are left as they are.
+# FOLDER is the top of the repository. Crates that it has already stay as they are.
 set -eu
 here=$(cd "$(dirname "$0")/.." && pwd)
 folder=$1
@@ -11,7 +11,7 @@ shift
 mkdir -p "$folder/crates"
 touch "$folder/crates.txt"
 
-# The crates with those under them, one after the other, until no new one comes
+# Adds the dependencies of all crates, until there is no new one.
 wanted=" $* "
 while :; do
     before=$wanted

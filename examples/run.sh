@@ -1,12 +1,12 @@
 #!/bin/sh
-# Builds the static library and the examples of C and of the Rust crate in bindings/rust, and compares what those print
-# that write reports with pdb_report's.
+# Builds the static library and the examples in C and of the Rust crate in bindings/rust, and compares their reports
+# with those of pdb_report.
 #
 # Usage: examples/run.sh [FOLDER [PROGRAM]]
 #
-# The examples are left in FOLDER, which is else a new one that is removed at the end. PROGRAM is a built pdb_report;
-# else it is built here. Wanted are gcc, cargo, make and rt. bindings/run.sh has the tests of the bindings. What is built
-# here is taken from the folder LIMBERLIME_BUILT instead where that is set (packaging/built.sh).
+# FOLDER gets the examples. Without FOLDER, a temporary folder is used and removed at the end. PROGRAM is a built
+# pdb_report. Without PROGRAM, it is built here. The script needs gcc, cargo, make and rt. bindings/run.sh has the tests
+# of the bindings. If LIMBERLIME_BUILT is set, built files are taken from that folder instead (packaging/built.sh).
 set -eu
 
 top=$(cd "$(dirname "$0")/.." && pwd)

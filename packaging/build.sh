@@ -1,11 +1,11 @@
 #!/bin/bash
-# Makes the packages: three of Debian's, a wheel for Python, a tarball, and their SHA-256 sums.
+# Makes the packages: three Debian packages, a Python wheel, a tarball, and their SHA-256 checksums.
 #
 # Usage: packaging/build.sh OUT
 #
 # The programs and the library are proved and built first, or taken from the folder LIMBERLIME_BUILT
-# (packaging/built.sh). The version is that of include/limberlime.h. The same commit and the same programs make the same
-# bytes: times are those of the commit, or of SOURCE_DATE_EPOCH.
+# (packaging/built.sh). The version is that of include/limberlime.h. Two runs over the same commit and the same programs
+# make the same bytes. File times are those of the commit, or SOURCE_DATE_EPOCH.
 set -euo pipefail
 needed="binutils dpkg-dev gcc git libc6-dev make python3"
 # shellcheck disable=SC2086
@@ -31,14 +31,14 @@ version=$(make_library version)
 soname=$(make_library soname)
 library=liblimberlime${soname#liblimberlime.so.}
 
-# Stops where a version is another than the header's.
+# Stops if a version differs from the header's.
 same_version() {
     [ "$2" = "$version" ] && return
     echo "build.sh: include/limberlime.h has the version $version, and $1 has $2" >&2
     exit 1
 }
 
-# The version that the library answers.
+# Prints the version that the library returns.
 library_version() {
     printf '#include <stdio.h>\n#include "limberlime.h"\nint main(void) {\n%s\n%s\n}\n' \
         'int64_t v = limberlime_version();' \
@@ -47,7 +47,7 @@ library_version() {
     "$work/version"
 }
 
-# The newest glibc that one of the files asks for.
+# Prints the newest glibc version that any of the files needs.
 glibc_of() {
     objdump -T "$@" | grep -o 'GLIBC_[0-9.]*' | cut -d _ -f 2 | sort -V | tail -n 1
 }
@@ -63,7 +63,7 @@ strip --strip-debug --enable-deterministic-archives "$work/library/liblimberlime
 strip --strip-unneeded "$work/library/liblimberlime.so"
 glibc=$(glibc_of "$work"/built/pdb_* "$work/library/liblimberlime.so")
 
-# Puts the programs with their pages and completions below a prefix.
+# Installs the programs with their man pages and completions below a prefix.
 install_programs() {
     install -d "$1/bin" "$1/share/man/man1" "$1/share/bash-completion/completions" "$1/share/zsh/vendor-completions" \
         "$1/share/fish/vendor_completions.d"
@@ -76,12 +76,12 @@ install_programs() {
     install -m 644 "$work/pages/pdb_symbolizer.fish" "$1/share/fish/vendor_completions.d"
 }
 
-# Sets all times below a folder to the commit's.
+# Sets all file times below a folder to the commit's.
 set_times() {
     find "$1" -exec touch -h -d "@$SOURCE_DATE_EPOCH" {} +
 }
 
-# Makes one of Debian's packages of what is below $work/NAME, with the control file of $packaging/files.
+# Makes a Debian package of the files below $work/NAME, with the control file in $packaging/files.
 debian_package() {
     root=$work/$1
     doc=$root/usr/share/doc/$1
@@ -126,7 +126,8 @@ debian_package liblimberlime-dev liblimberlime-dev
 platform=manylinux_$(glibc_of "$work/library/liblimberlime.so" | tr . _)_x86_64
 "$top/bindings/python/make_wheel.py" "$out" "$work/library/liblimberlime.so" "$platform" >/dev/null
 
-# The tarball has all but the wheel below one folder. Its files for pkg-config and CMake find it wherever it is.
+# The tarball has everything except the wheel, in one folder. Its files for pkg-config and CMake work wherever it is
+# unpacked.
 name=limberlime-$version-x86_64-linux
 install_programs "$work/$name"
 make_library install DESTDIR="$work" PREFIX="/$name" PC_PREFIX='$${pcfiledir}/../..'

@@ -1,10 +1,10 @@
 #!/bin/sh
-# Puts programs and libraries that are proved and built into a folder.
+# Puts proved and built programs and libraries into a folder.
 #
 # Usage: packaging/built.sh FOLDER FILE..
 #
-# FILE is pdb_symbolizer, pdb_report, libpdb_c.a or liblibc_c.a, which is the kit's. Each is taken from the folder
-# LIMBERLIME_BUILT where that is set. Else it is proved and built here, which takes an hour the first time.
+# FILE is pdb_symbolizer, pdb_report, libpdb_c.a or liblibc_c.a, which comes from the kit. If LIMBERLIME_BUILT is set,
+# each is copied from that folder. Otherwise it is proved and built here, which takes an hour the first time.
 set -eu
 
 top=$(cd "$(dirname "$0")/.." && pwd)

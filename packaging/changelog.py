@@ -1,9 +1,9 @@
 #!/usr/bin/env python3
-"""Writes CHANGELOG.md in the form that Debian's packages have, or the version of its newest part.
+"""Prints CHANGELOG.md in the form of Debian's changelogs, or its newest version.
 
 Usage: changelog.py (version|debian DATE)
 
-DATE is that of the commit, in the form of `date -R`.
+DATE is the date of the commit, in the form of `date -R`.
 """
 import pathlib
 import re
@@ -15,14 +15,14 @@ MAINTAINER = "Limberlime maintainers <maintainers@users.noreply.limberlime.examp
 
 
 def parts():
-    """The versions of the page with their entries but for those on the crates, the newest first."""
+    """Returns the versions of the page with their entries, the newest first. Entries on the crates are left out."""
     found = re.split(r"^## (\S+)$", PAGE.read_text(), flags=re.M)[1:]
     texts = [text.partition("\n### Rattle crates")[0] for text in found[1::2]]
     return [(version, re.findall(r"^- (.*)$", text, re.M)) for version, text in zip(found[::2], texts)]
 
 
 def plain(entry):
-    """An entry without marks and links."""
+    """Returns an entry without Markdown's marks and links."""
     return re.sub(r"\*\*|`", "", re.sub(r"\[(.*?)\]\(.*?\)", r"\1", entry))
 
 

@@ -1,5 +1,5 @@
 #!/usr/bin/env python3
-"""Writes the man page and the shell completions of pdb_symbolizer, from what the program prints for --help.
+"""Writes the man page and the shell completions of pdb_symbolizer, from the output of --help.
 
 Usage: pages.py PROGRAM PAGE VERSION DATE FOLDER
 
@@ -25,13 +25,13 @@ class Option(NamedTuple):
     help: str
 
     def choices(self):
-        """The values that the help lists after a colon."""
+        """Returns the values that the help lists after a colon, for an option with a STYLE."""
         listed = self.help.partition(": ")[2] if self.value == "STYLE" else ""
         return re.split(r", | or ", listed) if listed else []
 
 
 def read_help(program):
-    """The options that a program lists, and its examples, each with what is said of it."""
+    """Returns the options in the help of a program, and its examples. Each has its description."""
     text = subprocess.run([program, "--help"], capture_output=True, text=True, check=True).stdout
     found = [OPTION.fullmatch(line) for line in text.partition("\nOptions:\n")[2].splitlines()]
     if None in found or not found:

@@ -1,12 +1,12 @@
 #!/bin/bash
-# Tries the packages as a user's machine would: in the oldest release of Debian that has the glibc which they ask for.
+# Tests the packages as on a user's machine, in the oldest release of Debian with a glibc that is new enough for them.
 #
 # Usage: packaging/test.sh OUT
 #
-# OUT is what packaging/build.sh filled. Run it as root. It makes a new root without compilers, installs the programs,
-# makes README's run, and removes them again. Then it installs gcc, cmake, cargo and Python from Debian, and the
-# library, and runs an example in each language. Only packages of Debian are fetched. The status is 1 where something is
-# missing.
+# OUT is the output of packaging/build.sh. Run this as root. It makes a new root without compilers, installs the
+# programs, makes the first run of README.md, and removes the programs again. Then it installs gcc, cmake, cargo and
+# Python from Debian, and the library, and runs an example in each language. It downloads only packages of Debian. The
+# exit status is 1 if a test fails.
 set -euo pipefail
 needed="binutils lintian mmdebstrap util-linux"
 # shellcheck disable=SC2086
@@ -17,7 +17,7 @@ out=$(cd "$1" && pwd)
 work=$(mktemp -d)
 trap 'rm -rf --one-file-system "$work"' EXIT
 root=$work/root
-# Where the root has what is tried, and what is built there.
+# The folder in the root with the tested files and with all that is built there.
 place=/srv/limberlime
 
 say() {
@@ -30,7 +30,7 @@ fail() {
     exit 1
 }
 
-# Runs a command in the root, and stops where it fails. What it prints is in $work/said.
+# Runs a command in the root, and stops if it fails. Its output is in $work/said.
 in_root() {
     # shellcheck disable=SC2016
     unshare --mount sh -c 'mount -t proc proc "$0/proc" && exec chroot "$0" "$@"' "$root" env -i LC_ALL=C.UTF-8 \
@@ -42,20 +42,20 @@ install_in_root() {
     in_root apt-get install -y --no-install-recommends "$@"
 }
 
-# Runs a command in the root that has to print README's stack.
+# Runs a command in the root that must print the stack of README.md.
 prints_the_stack() {
     in_root "$@"
     cmp -s "$work/said" "$work/stack" || fail "prints something else: $*"
     say "prints the stack: $*"
 }
 
-# The files of the root, but for what installing any package leaves.
+# Prints the files of the root, except those that any installation leaves.
 files() {
     (cd "$root" && find . -path ./proc -prune -o -path ./var -prune -o -path ./tmp -prune -o -path ./srv -prune -o \
         -name ld.so.cache -o -print | sort)
 }
 
-# The oldest release of Debian that has a glibc of this version.
+# Prints the oldest release of Debian whose glibc has this version or a later one.
 release() {
     while read -r name glibc; do
         [ "$(printf '%s\n' "$glibc" "$1" | sort -V | head -n 1)" = "$1" ] && echo "$name" && return
@@ -82,7 +82,7 @@ cp "$out"/*.deb "$out"/*.whl "$out"/*.tar.gz "$top"/crates/pdb_symbolizer/data/s
 in_root apt-get update
 say "a root of $suite for programs that ask for glibc $glibc"
 
-# The programs, on a machine without compilers.
+# Tests the programs, on a machine without compilers.
 install_in_root man-db
 files >"$work/before"
 in_root sh -c "apt-get install -y --no-install-recommends $place/limberlime_*.deb"
@@ -98,7 +98,7 @@ in_root apt-get purge -y limberlime
 files | cmp -s - "$work/before" || fail "something is left: $(files | comm -3 - "$work/before")"
 say "man pages, completions and pdb_report; removed, the package leaves nothing"
 
-# The library. The sources of the examples are those of the repository.
+# Tests the library. The sources of the examples are those of the repository.
 install_in_root gcc g++ libc6-dev make cmake pkg-config cargo python3-venv
 say "gcc, cmake, cargo and Python are installed"
 files >"$work/before"
@@ -122,7 +122,7 @@ in_root sh -c 'apt-get purge -y "liblimberlime*"'
 files | cmp -s - "$work/before" || fail "something is left: $(files | comm -3 - "$work/before")"
 say "removed, the library leaves nothing"
 
-# The wheel and the tarball have all that they need in them.
+# Tests that the wheel and the tarball need nothing else.
 in_root sh -c "python3 -m venv $place/venv && $place/venv/bin/pip install --no-index $place/*.whl"
 in_root mv $place/python/stack.py $place/stack.py
 prints_the_stack $place/venv/bin/python $place/stack.py $place/shapes.pdb 0x1136

@@ -61,7 +61,7 @@ class Records:
 
     @staticmethod
     def rules(words):
-        """Rules by the names of their registers: a name ends with a colon, and its expression follows."""
+        """Returns the rules by register. A register's name ends with a colon, and its expression follows."""
         rules, name = {}, None
         for word in words:
             if word.endswith(":"):

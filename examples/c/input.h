@@ -1,4 +1,4 @@
-/* What the examples read: a file, and the addresses of a command line. */
+/* The input of the examples: a file, and the addresses of a command line. */
 #ifndef INPUT_H
 #define INPUT_H
 
@@ -8,7 +8,7 @@
 
 #include "limberlime.h"
 
-/* The whole file at a path, which the caller frees, or null. It is never null for an empty file. */
+/* Returns the whole file, which the caller frees, or null on failure. An empty file is not null. */
 static inline uint8_t *read_file(const char *path, size_t *length)
 {
     FILE *file = fopen(path, "rb");
@@ -36,7 +36,7 @@ static inline uint8_t *read_file(const char *path, size_t *length)
     return bytes;
 }
 
-/* The addresses that words spell in hexadecimal digits, which the caller frees, or null. */
+/* Reads the addresses in hexadecimal digits. The caller frees them. Returns null if an argument isn't an address. */
 static inline uint32_t *read_addresses(char **words, size_t count)
 {
     uint32_t *addresses = malloc((count + 1) * sizeof *addresses);

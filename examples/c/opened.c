@@ -1,9 +1,9 @@
-/* Prints what pdb_report prints of addresses, with the records read once for all of them:
+/* Prints what pdb_report prints for addresses. It reads the records once, for all addresses:
  *
  *     opened RECORDS (frames|names) ADDRESS...
  *
- * Each address is a question of its own. An address is a hexadecimal number. The status is 1 where the library refuses,
- * and 2 for all else.
+ * Each address is looked up by a call of its own. An address is a hexadecimal number. The exit status is 1 if the
+ * library refuses the records or a call, and 2 for all other errors.
  */
 #include <string.h>
 
@@ -11,13 +11,13 @@
 
 typedef int64_t (*opened_call)(struct limberlime_handle *, const uint32_t *, size_t, uint8_t *, size_t, size_t *);
 
-/* A buffer that grows where a text does not fit it, and is used for all questions. */
+/* A buffer for all answers. It is enlarged if a text doesn't fit. */
 struct buffer {
     uint8_t *bytes;
     size_t capacity;
 };
 
-/* Asks for one address, with more room where the text is longer than the buffer. */
+/* Looks up one address. If the text is longer than the buffer, enlarges the buffer and makes the call again. */
 static int64_t ask(opened_call call, struct limberlime_handle *handle, uint32_t address, struct buffer *buffer)
 {
     size_t wanted = 0;
@@ -33,7 +33,7 @@ static int64_t ask(opened_call call, struct limberlime_handle *handle, uint32_t 
     return length;
 }
 
-/* Asks for each address in turn. */
+/* Prints the answer for each address, up to the first error. */
 static int print_answers(opened_call call, struct limberlime_handle *handle, const uint32_t *addresses, size_t count)
 {
     struct buffer buffer = {malloc(256), 256};
@@ -49,7 +49,7 @@ static int print_answers(opened_call call, struct limberlime_handle *handle, con
     return length < 0 ? 1 : 0;
 }
 
-/* Opens the records, asks, and closes them. */
+/* Opens the records, prints the answers, and closes the records. */
 static int print_opened(opened_call call, const uint8_t *records, size_t length, const uint32_t *addresses,
                         size_t count)
 {

@@ -1,9 +1,9 @@
-/* Asks the library for what it refuses, sees that each refusal is answered by its number, with the buffer as it was.
+/* Tests that each kind of refusal has its error number and leaves the buffer unchanged.
  *
  *     refusals RECORDS FAILING_PARTS
  *
- * They are small_x64.json and failing_parts.json of crates/pdb_report_tests/data. The status is 1 where an answer is
- * another than is wanted.
+ * They are small_x64.json and failing_parts.json of crates/pdb_report_tests/data. The exit status is 1 if an answer is
+ * not the expected one.
  */
 #include <string.h>
 
@@ -16,7 +16,7 @@ static uint8_t buffer[CAPACITY];
 static const uint32_t addresses[2] = {0x1544, 0x2b45};
 static int failures;
 
-/* Sees that the buffer holds nothing but what stood in it from `from` on. */
+/* Returns whether the buffer is unchanged from `from` on. */
 static int untouched(size_t from)
 {
     for (size_t i = from; i < CAPACITY; i++)
@@ -25,7 +25,8 @@ static int untouched(size_t from)
     return 1;
 }
 
-/* What a call answered, and where it put the wanted length, which is read here, behind the call. */
+/* Compares the answer of a call, and the length that it stored. The length is read through a pointer, after the
+ * call. */
 static void expect(const char *what, int64_t answer, int64_t wanted_answer, const size_t *length, size_t wanted_length)
 {
     size_t written = answer > 0 ? (size_t)answer : 0;
@@ -37,7 +38,7 @@ static void expect(const char *what, int64_t answer, int64_t wanted_answer, cons
     memset(buffer, UNTOUCHED, CAPACITY);
 }
 
-/* The answer to a text in place of the records. */
+/* Tests the answer to a text that is passed as the records. */
 static void expect_text(const char *text, int64_t wanted_answer)
 {
     size_t wanted = 7;
@@ -115,8 +116,8 @@ static void refused_lengths(const uint8_t *records, size_t length)
     expect("a buffer of the very length", answer, (int64_t)whole, &wanted, whole);
 }
 
-/* One of two addresses is refused, since its module has a broken list of inlined functions. Of the other nothing is
- * written. */
+/* One of two addresses is refused, because its module has a broken list of inlined functions. Nothing is written for
+ * the other one either. */
 static void refused_address(const uint8_t *records, size_t length)
 {
     static const uint32_t asked[] = {0x10c4, 0x1024};
@@ -125,7 +126,7 @@ static void refused_address(const uint8_t *records, size_t length)
     expect("an address that is refused", answer, LIMBERLIME_ADDRESS_REFUSED, &wanted, 0);
 }
 
-/* A handle that holds nothing, asked in both ways. */
+/* Tests that both calls refuse a handle that has no records. */
 static void expect_closed(const char *what, struct limberlime_handle *handle)
 {
     size_t wanted = 7;
@@ -140,7 +141,7 @@ static void expect_closed(const char *what, struct limberlime_handle *handle)
     }
 }
 
-/* What an opening answers. */
+/* Tests the answer of limberlime_open. */
 static void expect_opening(const char *what, const uint8_t *records, size_t length, struct limberlime_handle *handle,
                            int64_t wanted_answer)
 {
@@ -151,7 +152,7 @@ static void expect_opening(const char *what, const uint8_t *records, size_t leng
     }
 }
 
-/* An opening that is refused leaves a handle closed, whether it was open before or not. */
+/* A refused call of limberlime_open closes the handle, whether it was open before or not. */
 static void refused_opening(const char *text, int64_t wanted_answer, const uint8_t *records, size_t length)
 {
     struct limberlime_handle handle = LIMBERLIME_CLOSED;
@@ -173,7 +174,7 @@ static void refused_openings(const uint8_t *records, size_t length)
                     "\"module_infos\":[]}", LIMBERLIME_RECORDS_REFUSED, records, length);
 }
 
-/* Null pointers, none of which changes what a handle holds. */
+/* Tests null pointers. None of them changes the records of a handle. */
 static void refused_handle_pointers(struct limberlime_handle *handle, const uint8_t *records, size_t length)
 {
     size_t wanted = 7;
@@ -190,7 +191,7 @@ static void refused_handle_pointers(struct limberlime_handle *handle, const uint
            LIMBERLIME_NULL_POINTER, &wanted, 7);
 }
 
-/* What an open handle refuses, and that it answers afterwards as the calls over bytes do. */
+/* Tests what an open handle refuses, and that it gives the same answers afterwards as the calls over bytes. */
 static void refused_questions(const uint8_t *records, size_t length, const uint8_t *failing, size_t failing_length)
 {
     static const uint32_t asked[] = {0x10c4, 0x1024};

@@ -1,8 +1,8 @@
-/* Prints what pdb_report prints of addresses, by one call of the library:
+/* Prints what pdb_report prints for addresses, by one call of the library:
  *
  *     report RECORDS (frames|names) ADDRESS...
  *
- * An address is a hexadecimal number. The status is 1 where the library refuses, and 2 for all else.
+ * An address is a hexadecimal number. The exit status is 1 if the library refuses the call, and 2 for all other errors.
  */
 #include <string.h>
 
@@ -10,7 +10,7 @@
 
 typedef int64_t (*report_call)(const uint8_t *, size_t, const uint32_t *, size_t, uint8_t *, size_t, size_t *);
 
-/* Prints a report. The first buffer does for most; where it does not, the call has said the length that is wanted. */
+/* Prints a report. If the first buffer is too small, the call stores the length that is needed, and is made again. */
 static int print_report(report_call call, const uint8_t *records, size_t records_length, const uint32_t *addresses,
                         size_t address_count)
 {

@@ -3,10 +3,14 @@
 
 Usage: server.py [--port PORT] [--host HOST] [--origin ORIGIN] [--program PROGRAM] DIR .. [-- OPTION ..]
 
-POST /symbolicate/v5 is answered by one process `PROGRAM --symbolicate-lines --pdb-dir DIR OPTION ..`. PROGRAM is
-pdb_symbolizer if none is given. PORT is 3456; with 0 the system chooses one. Pages of ORIGIN may ask, or pages of
-any origin if none is given. Only programs of this machine reach HOST 127.0.0.1, which is the default. The address is
-printed when the server is ready. SIGTERM and SIGINT end the server and the process.
+One process `PROGRAM --symbolicate-lines --pdb-dir DIR OPTION ..` answers all requests to POST /symbolicate/v5.
+
+  - PROGRAM is pdb_symbolizer if not given.
+  - PORT is 3456 if not given. With 0, the system chooses a port.
+  - Only pages of ORIGIN may read answers. If it isn't given, pages of any origin may.
+  - HOST is 127.0.0.1 if not given, which only programs on this machine can reach.
+
+The server prints its address when it is ready. SIGTERM and SIGINT end the server and the process.
 """
 import argparse
 import json
@@ -18,12 +22,13 @@ from http import HTTPStatus
 from http.server import BaseHTTPRequestHandler, ThreadingHTTPServer
 
 PATH = "/symbolicate/v5"
-# The longest line that pdb_symbolizer takes, with its line end.
+# The longest line that pdb_symbolizer accepts, in bytes, with its line end.
 LONGEST = 16777216
-# How much of a request that is too long is read before the connection is closed.
+# The most bytes that are read of a request that is too long, before the connection is closed.
 MOST_SKIPPED = 16 * LONGEST
 MOST_DIGITS = 18
-# How long a client may be silent, and how long the end waits for requests that are being answered and for the process.
+# The seconds that a client may be silent, and those that the server waits at its end for open requests and for the
+# process.
 SECONDS = 60
 SECONDS_AT_END = 10
 
@@ -33,15 +38,15 @@ class Ended(Exception):
 
 
 class Symbolizer:
-    """One process that answers requests, a line each. Threads may share it: a lock lets one request at a time reach
-    it."""
+    """A process that answers requests, one line each. Threads may share it, because a lock lets one request through at
+    a time."""
 
     def __init__(self, words):
         self._words, self._lock, self._closed = words, threading.Lock(), False
         self._process = self._started()
 
     def answer(self, line):
-        """The line that answers a line. If the process ends before, another one is asked once more."""
+        """Returns the answer to a line. If the process ends first, a new one gets the line once more."""
         with self._lock:
             try:
                 return self._ask(line)
@@ -49,7 +54,7 @@ class Symbolizer:
                 return self._ask(line)
 
     def close(self):
-        """Ends the process, after the request that it is at."""
+        """Ends the process, after its current request."""
         self._closed = True
         if self._lock.acquire(timeout=SECONDS_AT_END):
             self._end()
@@ -98,7 +103,7 @@ class Handler(BaseHTTPRequestHandler):
     timeout = SECONDS
 
     def do_OPTIONS(self):
-        """Whether a page of another origin may post. A browser asks this first."""
+        """Says that pages of another origin may post. A browser asks this first."""
         self.send_response(HTTPStatus.NO_CONTENT)
         self.send_header("Access-Control-Allow-Methods", "POST, OPTIONS")
         self.send_header("Access-Control-Allow-Headers", "Content-Type")
@@ -106,7 +111,7 @@ class Handler(BaseHTTPRequestHandler):
         self.end_headers()
 
     def do_GET(self):
-        """There is nothing to get."""
+        """Refuses GET, because there is nothing to get."""
         self.refuse(HTTPStatus.METHOD_NOT_ALLOWED if self.path == PATH else HTTPStatus.NOT_FOUND, f"POST {PATH} only")
 
     def do_POST(self):
@@ -138,17 +143,17 @@ class Handler(BaseHTTPRequestHandler):
         return self.send(HTTPStatus.BAD_REQUEST if answer.startswith(b'{"error":') else HTTPStatus.OK, answer)
 
     def skip(self, length):
-        """Reads what a client sends that isn't taken, so that it gets to read the reason."""
+        """Reads a body that is too long, so that the client gets to read the reason."""
         left = min(length, MOST_SKIPPED)
         while left and (piece := self.rfile.read(min(left, 1 << 16))):
             left -= len(piece)
 
     def refuse_as_too_long(self, close=False):
-        """Answers a request that is too long."""
+        """Refuses a request that is too long."""
         self.refuse(HTTPStatus.REQUEST_ENTITY_TOO_LARGE, f"a request longer than {LONGEST} bytes", close)
 
     def refuse(self, status, reason, close=False):
-        """Answers with a reason, in the form in which pdb_symbolizer does."""
+        """Answers with a reason, in the form of pdb_symbolizer."""
         self.send(status, json.dumps({"error": reason}).encode() + b"\n", close)
 
     def send(self, status, text, close=False):
@@ -168,7 +173,7 @@ class Handler(BaseHTTPRequestHandler):
 
 
 class Server(ThreadingHTTPServer):
-    """A thread for each connection, and one process for all."""
+    """A server with a thread for each connection, and one process for all of them."""
 
     request_queue_size = 128
 
@@ -178,22 +183,22 @@ class Server(ThreadingHTTPServer):
         self._count, self._changed = 0, threading.Condition()
 
     def answering(self):
-        """What is held while a request is answered."""
+        """Returns a context manager to hold while a request is answered."""
         return Answering(self)
 
     def change(self, number):
-        """Counts the requests that are being answered."""
+        """Counts the open requests."""
         with self._changed:
             self._count += number
             self._changed.notify_all()
 
     def finish(self):
-        """Waits for the requests that are being answered."""
+        """Waits for the open requests."""
         with self._changed:
             self._changed.wait_for(lambda: not self._count, SECONDS_AT_END)
 
     def handle_error(self, request, client_address):
-        """A client that goes away is no error."""
+        """Ignores clients that close the connection."""
         if not isinstance(sys.exc_info()[1], OSError):
             super().handle_error(request, client_address)
 
@@ -232,7 +237,7 @@ def stop(*_):
 
 
 def serve(given, symbolizer):
-    """Answers requests until a signal comes, and finishes those that it is at."""
+    """Answers requests until a signal comes, and finishes the open ones."""
     with Server((given.host, given.port), symbolizer, given.origin) as server:
         print(f"http://{given.host}:{server.server_port}", flush=True)
         try:

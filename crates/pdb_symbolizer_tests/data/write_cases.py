@@ -1,20 +1,27 @@
 #!/usr/bin/env python3
-"""Writes cases.txt, and what is wanted of its cases into ../stdout.
+"""Writes cases.txt, and the expected output of its cases to ../stdout.
 
 Usage: write_cases.py FOLDER     FOLDER has shapes.exe with its PDB file, as crates/pdb_symbolizer/data/program/build.sh
                                  builds them
 
-Where `llvm-symbolizer` has an answer to the same words, that is what is wanted. All else is written here by hand, from
-docs/CONTAINER.md: what its tables of differences name, what LLVM's program doesn't have, and files that are broken.
-shapes.exe beside this is the program with the GUID of shapes.pdb here, and other.exe is it as it was built, whose PDB
-file stands under `symbols`: clang writes the name of its folder into a PDB file, by which the GUID is made. Written here
-are also high.pdb, which is broken_parts.pdb with its section at the end of all addresses, and its public symbol in the
-last function; device.exe and folder.exe, which are other.exe with a device and a folder in place of its PDB file's path;
-and device.json, which is names.json with a device as a module's file. The folders tiers, untold, cased and packed are
-symbol stores, whose files request_cases.py writes. parts_of_other_modules.pdb is that of
-pdb_container_tests. inline_faults.py writes inline_faults.pdb, unread_parts.py the files that it names,
-overlapping_sections.py overlapping_sections.pdb, source_urls.py sources.pdb and broken_links.pdb, further_kinds.py
-further_kinds.pdb, frame_data.py frame_data.pdb, and arm64_program.py arm64.exe and arm64.pdb.
+If `llvm-symbolizer` has an answer to the same arguments, that is the expected one. All else is written here by hand,
+from docs/CONTAINER.md: the differences in its tables, what LLVM's program doesn't have, and broken files.
+
+clang writes the name of its folder into a PDB file, and the GUID depends on it. So shapes.exe in this folder is the
+program with the GUID of shapes.pdb in this folder. other.exe is the program as it was built, and its PDB file is under
+`symbols`.
+
+The script also writes these files:
+
+  - high.pdb: broken_parts.pdb with its section at the end of the address space, and its public symbol in the last
+    function
+  - device.exe and folder.exe: other.exe with a device and a folder as the path of its PDB file
+  - device.json: names.json with a device as a module file
+  - the folders tiers, untold, cased and packed: symbol stores, whose files request_cases.py writes
+  - files of the modules that it imports: inline_faults.py, unread_parts.py, overlapping_sections.py, source_urls.py
+    (sources.pdb, broken_links.pdb), further_kinds.py, frame_data.py and arm64_program.py (arm64.exe, arm64.pdb)
+
+parts_of_other_modules.pdb is that of pdb_container_tests.
 """
 import itertools
 import json
@@ -37,14 +44,14 @@ from symbol_file_texts import symbol_file
 from unread_parts import unread_part_cases
 
 HERE = pathlib.Path(__file__).resolve().parent
-# Three inlined bodies in one another; a function's start; a function of another file; the last byte of one
+# Addresses with two nested inlined calls, at a function's start, inside a function, and in a function of another file.
 ADDRESSES = ["0x1136", "0x1000", "0x10b0", "0x119f"]
 STYLES = ["LLVM", "GNU", "JSON"]
 OPTIONS = ["-a", "-p", "--no-inlines", "--inlines"]
 
 
 def sets_of_options():
-    """All sets of the options, in each of the three styles."""
+    """Yields all sets of the options, in each of the three styles."""
     for style, count in itertools.product(STYLES, range(len(OPTIONS))):
         for options in itertools.combinations(OPTIONS, count):
             if not {"--no-inlines", "--inlines"} <= set(options):
@@ -52,14 +59,14 @@ def sets_of_options():
 
 
 LLVM = "llvm-symbolizer-22"
-# What llvm-symbolizer takes for an address or a symbol, and what it takes for neither
+# Lines that llvm-symbolizer reads as an address or a symbol, and lines that it reads as neither.
 LINES = ["0x1136", "4406", "0X1136", "0o10466", "010466", "0b1000100110110", "CODE 0x1136", "DATA 0x1136", "FRAME 0x1136",
          "0x1136 tail", "zz", "", "CODE zz", "DATA zz", "FRAME zz", "-5", "+4406", "entry+0x4", "foo bar", "CODE", "DATA", "FRAME"]
 NUMBERS = ["0x", "08", "1000000000000000000000", "0x1136+3"]
 
 
 def of_llvm(folder, words, lines=None, status=0, variable=None):
-    """What llvm-symbolizer prints for these words, these lines of standard input and this environment variable."""
+    """Returns what llvm-symbolizer prints for these arguments, this standard input and this environment variable."""
     text = None if lines is None else "".join(f"{line}\n" for line in lines)
     environment = {**os.environ, **({} if variable is None else {"LLVM_SYMBOLIZER_OPTS": variable})}
     printed = subprocess.run([LLVM, *words], input=text, capture_output=True, text=True, cwd=folder, env=environment)
@@ -67,15 +74,15 @@ def of_llvm(folder, words, lines=None, status=0, variable=None):
 
 
 def case(words, lines=None, variable=None):
-    """The line of a case."""
+    """Returns the line of a case."""
     text = "" if lines is None else " < " + "|".join(lines)
     return ("" if variable is None else f'LLVM_SYMBOLIZER_OPTS="{variable}" ') + " ".join(["pdb_symbolizer", *words]) + text
 
 
 def llvm_cases(folder):
-    """Cases whose wanted text is LLVM's."""
+    """Yields cases whose expected output is LLVM's."""
     for options in sets_of_options():
-        # `-p` in JSON by LLVM is another layout of the same
+        # LLVM lays out JSON with `-p` differently, with the same content
         if "--output-style=JSON" in options and "-p" in options:
             continue
         words = ["--obj=shapes.exe", "--relative-address", "--functions=short", *options]
@@ -89,7 +96,7 @@ def llvm_cases(folder):
     for style, shown in itertools.product(STYLES, ([], ["-a", "-p"])):
         words = ["--relative-address", "--functions=short", f"--output-style={style}", *shown, "-e", "shapes.exe"]
         if "-p" not in shown or style != "JSON":
-            # where nothing has an address LLVM shows that of the request before
+            # if nothing has an address, LLVM prints the address of the request before
             lines = [line for line in LINES if not shown or line not in ("DATA zz", "FRAME zz")]
             yield case(words, lines), of_llvm(folder, words, lines)
             wrong = "".join(error(f"{line}: no number") + of_llvm(folder, words, [line]).replace(ENDED, "") for line in NUMBERS)
@@ -112,14 +119,14 @@ def llvm_cases(folder):
 
 
 def repeated_cases(folder):
-    """Options that are said more than once, and those of the environment."""
+    """Yields cases of options that are given more than once, and of options in the environment."""
     front = ["--relative-address", "--obj=shapes.exe"]
     for options in (["-p", "-p"], ["-a", "--addresses", "-a"], ["-s", "--basenames"], ["--verbose", "--verbose"], ["-C", "-C"],
                     ["--no-inlines", "--inlines"], ["--inlines", "--no-inlines"], ["--inlining=false", "--inlining"],
                     ["--no-inlines", "--inlining=true"], ["--inlining=true", "--no-inlines"], ["--obj=nowhere.exe", "-e", "shapes.exe"],
                     ["--functions=none", "--functions=short"], ["--output-style=JSON", "--output-style=GNU"],
                     ["--adjust-vma=1", "--adjust-vma=0"], ["--relative-address"], ["--print-source-context-lines=3", "--print-source-context-lines=0"]):
-        # with `-s` LLVM on Linux leaves the folders of Windows, so an address is asked for that has no file
+        # with `-s`, LLVM on Linux keeps the folders of Windows paths, so the address is one without a file
         words = ["--functions=none", *front, *options, "0x10"] if "-s" in options else ["--functions=short", *front, *options, "0x1136"]
         yield case(words), of_llvm(folder, words)
     for variable, words in (("-p --functions=short '--obj=shapes.exe'", ["--relative-address", "0x1136"]),
@@ -128,7 +135,8 @@ def repeated_cases(folder):
 
 
 def source_cases(folder):
-    """Lines of source files: one whose lines end as on Windows, the last without an end, and one that is too short."""
+    """Yields cases of lines of source files. One file has line ends of Windows and none after its last line. The other
+    file is too short."""
     lines = {"shapes.h": "\r\n".join(f"line {number} of \"shapes.h\"" for number in range(1, 12)),
              "main.cpp": "".join(f"\tline {number}\n" if number % 3 else "\n" for number in range(1, 37))}
     for place in (pathlib.Path(folder), HERE):
@@ -149,12 +157,12 @@ def source_cases(folder):
 
 
 def decorated_cases(folder):
-    """Functions by the names of their public symbols."""
+    """Yields cases of functions with the names of their public symbols."""
     for style, options in (*itertools.product(STYLES, (["--functions=short"],)), ("LLVM", ["--no-inlines"]), ("JSON", ["--no-inlines"]),
                            ("LLVM", ["--functions=none"]), ("GNU", ["--functions=none"])):
         words = ["--no-demangle", *options, "--relative-address", "--obj=shapes.exe", f"--output-style={style}", *ADDRESSES]
         yield case(words), of_llvm(folder, words)
-    # names of inlined functions have their arguments here
+    # here, names of inlined functions have their arguments
     yield "pdb_symbolizer -p --no-demangle shapes.pdb 0x1136", STACK.replace("Framed::draw(int)", "?draw@Framed@@UEAAHH@Z")
     yield "pdb_symbolizer -p --no-demangle -C shapes.pdb 0x1136", STACK
     yield "pdb_symbolizer -p --no-demangle names.json 1010", "typed at C:\\b/c.h:7:0\n\n" + ENDED
@@ -165,29 +173,30 @@ MIDDLE = r" (inlined by) Picture::draw(int) at C:\shapes\main.cpp:29:0"
 OUTER = r" (inlined by) Framed::draw(int) at C:\shapes\main.cpp:36:0"
 STACK = "\n".join([INNER, MIDDLE, OUTER, "", "status 0", ""])
 NO_NAME = "??\n??:0:0\n\n"
-# What the system says of a file that isn't there, and of one that is a folder
+# The system's messages for a file that doesn't exist, and for a folder.
 MISSING, FOLDER = "No such file or directory (os error 2)", "Is a directory (os error 21)"
 ENDED = "status 0\n"
 
 
 def json_frame(name, file, line):
-    """A frame in JSON."""
+    """Returns a frame in JSON."""
     return (f'{{"Column":0,"Discriminator":0,"FileName":"{file}","FunctionName":"{name}","Line":{line},'
             '"StartAddress":"","StartFileName":"","StartLine":0}')
 
 
 def json_answer(address, file, frames):
-    """The answer of an address in JSON."""
+    """Returns the answer for an address in JSON."""
     return f'{{"Address":"{address}","ModuleName":"{file}","Symbol":[{",".join(frames)}]}}'
 
 
 def error(text):
-    """A line on standard error."""
+    """Returns a line on standard error."""
     return f"standard error: pdb_symbolizer: {text}\n"
 
 
 def replaced(name, *pairs):
-    """The bytes of a file beside this, with the second of each pair in place of the first, which stands there once."""
+    """Returns the bytes of a file in this folder. Of each pair, the first, which must occur once, is replaced by the
+    second."""
     data = (HERE / name).read_bytes()
     for old, new in pairs:
         assert data.count(old) == 1
@@ -196,7 +205,8 @@ def replaced(name, *pairs):
 
 
 def name_cases():
-    """Names with signatures, which LLVM takes from decorated names, and folders that are left out."""
+    """Yields cases of names with signatures, which LLVM takes from decorated names, and of file names without
+    folders."""
     for words in ("", "-f ", "--functions ", "--functions=signature ", "--functions=linkage ", "-i ", "--relative-address "):
         yield f"pdb_symbolizer -p {words}shapes.pdb 0x1136", STACK
     yield "pdb_symbolizer -p -s shapes.pdb 0x1136", STACK.replace("C:\\shapes\\", "")
@@ -208,7 +218,8 @@ def name_cases():
 
 
 def address_cases():
-    """Addresses with a base and an offset, in no function, and words that are none."""
+    """Yields cases of addresses with a base and an offset, of addresses in no function, and of texts that are not
+    addresses."""
     for words, address in (("--base 0x140000000", "0x140001136"), ("--base 140000000", "140001136"), ("--adjust 1", "1137"),
                            ("--adjust-vma 1", "1137"), ("--adjust 0x100 --adjust-vma 48", "0x1266"),
                            ("--base 400000 --adjust 1", "0x401137"), ("--base 0xffffffffffff0000", "0xffffffffffff1136")):
@@ -238,7 +249,7 @@ def address_cases():
 
 
 def program_cases():
-    """Programs, whose PDB file is looked for, and the base that they have."""
+    """Yields cases of programs: the search for their PDB file, and their image base."""
     shapes, other = "{6B32B941-6495-9A52-4C4C-44205044422E}/1", "{A9D98A29-E7C1-86D0-4C4C-44205044422E}/1"
     yield "pdb_symbolizer -p shapes.exe 140001136", STACK
     yield "pdb_symbolizer -p --relative-address shapes.exe 1136", STACK
@@ -276,7 +287,7 @@ def program_cases():
 
 
 def habit_cases(folder):
-    """Lines that name their files, and the program under other names."""
+    """Yields cases of lines that name their files, and of the program under other names."""
     lines = ["shapes.exe 0x140001136", '"shapes.exe" 0x140001136', "CODE shapes.exe 5368713526", "'shapes.exe' 0x140001000",
              "DATA shapes.exe 0x140001136", "FRAME shapes.exe 0x140001136", "FILE:shapes.exe 0x140001136", "CODE FILE: 'shapes.exe' 0x140001136",
              "shapes.exe zz", "DATA shapes.exe zz", "", "shapes.exe 0x140001136"]
@@ -314,7 +325,8 @@ NO_FILE = "no program (EXE or DLL), PDB file or records file"
 
 
 def unopened_cases(folder):
-    """Files that can't be opened. Statuses are as by LLVM where an option names one; where a line does, LLVM's is 0."""
+    """Yields cases of files that can't be opened. If an option names the file, the status is LLVM's. If a line names
+    it, the status is 1, and LLVM's is 0."""
     (HERE / "elf").write_bytes(b"\x7fELF" + bytes(60))
     files = [("nowhere.exe", f"cannot read nowhere.exe: {MISSING}"), ("symbols", f"cannot read symbols: {FOLDER}"),
              ("cases.txt", f"cases.txt: {NO_FILE}"), ("elf", "elf: an ELF file, not a program of Windows"),
@@ -346,7 +358,8 @@ FRONT_ROWS = ["public symbols end early: " + LENGTH, "the list of modules ends e
               "the list of contributions ends early: " + CUT,
               f"module a symbol that ends too late: {CLAIMED}", f"module an older form: {CLAIMED}", f"module whole: {CLAIMED}",
               f"module a part that ends too late: {CLAIMED}"]
-# What is told of a module when an address in its code is asked for, the first of them of those at 0x1020 and 0x1050
+# The messages about modules when an address in their code is looked up. The first one is about the module at 0x1020 and
+# 0x1050.
 MODULE_ROWS = ["module more symbols than there are: symbols end early: " + CUT,
                "module a symbol that ends too late: symbols end early: " + CUT,
                "module a symbol too short for its kind: symbols end early: " + LENGTH,
@@ -364,7 +377,7 @@ ASKED_ROWS = FRONT_ROWS + MODULE_ROWS[:1]
 
 
 def broken_cases():
-    """Files that can't be read, of which nothing is answered, or in which something is broken."""
+    """Yields cases of files that can't be read, that can't be used, or that have broken parts."""
     (HERE / "words.json").write_text("{words\n", encoding="utf-8")
     yield "pdb_symbolizer nowhere.pdb 0x1136", error(f"cannot read nowhere.pdb: {MISSING}") + "status 2\n"
     yield "pdb_symbolizer symbols 0x1136", error(f"cannot read symbols: {FOLDER}") + "status 2\n"
@@ -404,9 +417,9 @@ def broken_cases():
 
 
 def module_cases():
-    """A file in which a type stands behind another module's import, a chunk goes by another module's function, and the
-    size of an array's elements stands with a type that nothing leads to: all that is read with the module that is asked
-    for."""
+    """Yields cases of a file whose answers need parts of other modules: a type that an import leads to, a chunk's
+    function, and the size of an array's elements, which is in a type record that no index leads to. All of them are
+    read with the module of the address."""
     file, f, g = "pdb_symbolizer -p parts_of_other_modules.pdb", "f(int) at ??:0:0\n\n", "g(int) at ??:0:0\n\n"
     yield f"{file} 0x1100", f + ENDED
     yield f"{file} 0x1300", g + ENDED
@@ -415,8 +428,8 @@ def module_cases():
 
 
 def identity_cases():
-    """Which build a file is of: the GUID of the info stream, of which the first three fields have their lowest byte
-    first, and the age of the debug information."""
+    """Yields cases of debug ids. An id has the GUID of the info stream and the age of the debug information. The first
+    three fields of the GUID are stored with the lowest byte first."""
     guid, other = "6B32B94164959A524C4C44205044422E", "{6B32B941-6495-9A52-4C4C-44205044422E}"
     yield "pdb_symbolizer --show-id shapes.pdb broken_parts.pdb", \
         f"shapes.pdb {guid}1 1 x86_64\nbroken_parts.pdb 030201000504070608090A0B0C0D0E0F1 1 x86_64\n" + ENDED
@@ -436,8 +449,8 @@ def identity_cases():
 
 
 def records_cases():
-    """Names that JSON escapes, that symbols have and that nobody has, in a records file; and records files that are
-    written."""
+    """Yields cases of a records file with names that JSON escapes, names of symbols, and unknown names; and of records
+    files that are written."""
     typed, quoted = "typed at C:\\b/c.h:7:0\n\n", 'q"u\\o\tt\x01 at ??:0:0\n\n'
     yield "pdb_symbolizer -p names.json 1010 1020 1030", typed + quoted + "?? at ??:0:0\n\n" + ENDED
     frames = [json_frame("typed", "C:\\\\b/c.h", 7), json_frame('q\\"u\\\\o\\tt\\u0001', "", 0), json_frame("", "", 0)]
@@ -464,24 +477,25 @@ def records_cases():
 
 
 def write_high():
-    """Writes high.pdb. The end of its last function, which is the end of the section, doesn't fit 32 bits."""
+    """Writes high.pdb. Its last function ends with the section, and that end doesn't fit 32 bits."""
     (HERE / "high.pdb").write_bytes(replaced(
         "broken_parts.pdb", (struct.pack("<II", 0x800, 0x1000), struct.pack("<II", 0x800, 0xfffff800)),
         (struct.pack("<IIH", 2, 0x20, 1) + b"?f@@", struct.pack("<IIH", 2, 0x428, 1) + b"?f@@")))
 
 
 def broken_symbols(file, *functions):
-    """The symbol file of a file with broken parts."""
+    """Returns the symbol file of a file with broken parts."""
     rows = ["MODULE windows x86_64 030201000504070608090A0B0C0D0E0F1 " + file, *functions, ENDED]
     return "".join(error(f"{file}: {row}") for row in BROKEN_ROWS) + "\n".join(rows)
 
 
 def symbol_file_cases(folder):
-    """Symbol files: of the stacks that LLVM answers; of broken parts, whose functions are the public symbol and what lies
-    between starts of contributions, each with no line; and words and files of which none is written."""
+    """Yields cases of symbol files: from the stacks that LLVM answers, and of a file with broken parts. The functions
+    of the latter are the public symbol and the code between starts of contributions, all without lines. Other cases
+    have invalid arguments or files."""
     write_high()
     module = "MODULE windows x86_64 6B32B94164959A524C4C44205044422E1 shapes.pdb"
-    # the scripts link with `/timestamp:0`, and the image ends with the last of its six pages
+    # the scripts link with `/timestamp:0`, and the size of the image is six pages
     program = "INFO CODE_ID 000000006000 shapes.exe"
     short = stacks(folder)
     whole = dict(with_arguments(short))
@@ -520,7 +534,7 @@ def write_below(path, data):
 
 
 def api_cases(folder):
-    """Requests of the symbolication API."""
+    """Yields cases of requests of the symbolication API."""
     short = stacks(folder)
     return request_cases(dict(with_arguments(short)), short, procedure_at, error, ASKED_ROWS, write_below)
 
