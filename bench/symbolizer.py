@@ -4,9 +4,9 @@ files.
 
 Usage: symbolizer.py PROGRAM RUNS EXE..
 
-The PDB file of app.exe is app.pdb in the same folder. Each program gets one address in the middle of the code, and in
-another run the start and the middle of each function, as `--dump-syms` lists them. Addresses come from standard input,
-and the programs take turns. Each time is the minimum over RUNS runs, and each memory the maximum. The number in
+The PDB file of app.exe is app.pdb in the same folder. Each program gets one address in the middle of the code. In
+another run it gets the start and the middle of each function, as `--dump-syms` lists them. Addresses come from standard
+input, and the programs take turns. Each time is the minimum over RUNS runs, and each memory the maximum. The number in
 parentheses after a figure of llvm-symbolizer is its ratio to that of pdb_symbolizer. The output is a table of
 bench/RESULTS.md, from which bench/plot.py draws.
 """

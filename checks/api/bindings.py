@@ -43,7 +43,7 @@ def symbolizer_lines(frames):
 
 
 def report_lines(address, frames):
-    """Formats frames as `pdb_report` does, but with `??` for a line 0, because the library has no such line."""
+    """Formats frames as `pdb_report` does, but with `??` for a line 0, which the library uses for an unknown line."""
     if not frames:
         return f"{address:x} - no frames found\n"
     lines = [f"     {'<unknown>' if frame.function is None else frame.function} at "

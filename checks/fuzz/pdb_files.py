@@ -4,7 +4,7 @@
 Usage: pdb_files.py PROGRAM COUNT [SEED] [PDB..]
 
 Without a PDB, the files of crates/pdb_symbolizer/data are used. A copy has bits flipped, numbers made huge or small,
-blocks overwritten by others, numbers in the directory changed, or bytes filled with one value, or it is cut. A run
+blocks overwritten by others, numbers in the directory changed, or bytes filled with one value. Others are cut. A run
 misbehaves in these cases:
 
   - It ends by a signal.

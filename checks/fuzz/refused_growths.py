@@ -1,6 +1,6 @@
 #!/usr/bin/env python3
-"""Runs the built program with each of its memory allocations failing in turn, and reports every run that ends in a way
-it must not.
+"""Runs the built program, and makes each of its memory allocations fail in turn. It reports every run that ends in a
+way it must not.
 
 Usage: refused_growths.py PROGRAM [CALLS_PROGRAM]
 
@@ -24,8 +24,7 @@ The run may end in these ways:
 
 - as expected, with a call made again or without;
 - with one list that differs, if a call was made again and the list is about broken parts. The call may have found such
-  a
-  part and then run out of memory. Made again, it may answer that the part failed before;
+  a part and then run out of memory. Made again, it may answer that the part failed before;
 - early with status 1, or without answers over a file that it couldn't read, if an allocation of the test program itself
   failed.
 """

@@ -1,5 +1,5 @@
 #!/usr/bin/env python3
-"""Runs the built pdb_symbolizer over small PDB files with each of its memory allocations failing in turn, and reports
+"""Runs the built pdb_symbolizer over small PDB files, and makes each of its memory allocations fail in turn. It reports
 every run that ends in a way it must not.
 
 Usage: refused_pdb_growths.py PROGRAM
@@ -40,8 +40,8 @@ AS_WANTED, BEHIND_ANSWERS, AT_FIRST = "as wanted", "out of memory behind whole a
 
 
 def ask(program, case, library=None, counts_file=None, seconds=SECONDS, **refusal):
-    """Runs a case, for at most so many seconds. If a library is given, it is preloaded and makes the allocations or
-    reads fail."""
+    """Runs a case, for at most `seconds`. If a library is given, it is preloaded and makes allocations or reads
+    fail."""
     folder, words, lines = case
     environment = dict(os.environ)
     if library:

@@ -1,6 +1,6 @@
 #!/usr/bin/env python3
-"""Runs the built pdb_symbolizer over small PDB files with each of its reads failing or ended early in turn, and with
-short reads, and reports every run that ends in a way it must not.
+"""Runs the built pdb_symbolizer over small PDB files, and makes each of its reads fail or end early in turn, or all of
+them short. It reports every run that ends in a way it must not.
 
 Usage: refused_reads.py PROGRAM
 

@@ -1,5 +1,5 @@
 #!/usr/bin/env python3
-"""Writes reports into a vector in memory with each memory allocation failing in turn, and reports every run that ends
+"""Writes reports into a vector in memory, and makes each memory allocation fail in turn. It reports every run that ends
 in a way it must not.
 
 Usage: report_into_memory.py [PROGRAM]

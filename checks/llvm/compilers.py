@@ -15,8 +15,8 @@ in the first row of an inline site, LLVM answers the line of the row after it em
 empty name, which is answered as `<name omitted>`
 
 If a tool is missing, the script names it with its Debian package, and leaves out its programs. The exit status is 1 if
-answers differ for no such reason (the first three of each kind are printed), if a build fails, or if no program was
-compared.
+answers differ for no such reason, if a build fails, or if no program was compared. The first three answers of each kind
+without a reason are printed.
 """
 import collections
 import itertools

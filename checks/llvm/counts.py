@@ -91,8 +91,8 @@ def shown_lines(lines):
 
 
 def shown(pdb):
-    """Returns what llvm-pdbutil shows: the counts of the file, the counts of each module that has a stream, and where
-    the subsections of lines of each module start."""
+    """Returns what llvm-pdbutil shows: the counts of the file, the counts of each module that has a stream, and the
+    starts of each module's subsections of lines."""
     modules = by_module("--modules", pdb)
     globals_ = [found[1] for found in map(SYMBOL.match, dump("--gsi-records", pdb)) if found]
     whole = {"modules": len(modules), "global symbols": len(globals_),

@@ -7,8 +7,8 @@ Usage: frame_data.py PROGRAM FILE..      needs llvm-pdbutil of LLVM 14 or later
 `llvm-pdbutil dump -fpo` shows the entries of frame data (`New FPO Data`) and of FPO data (`Old FPO Data`) of each FILE.
 Each entry must have one record, in this order, with the same numbers and the same program. There may be no other
 records. FPO data is shown in units of four bytes, as in the file; records have bytes. The parameter size in a FUNC or
-PUBLIC record is that of the last entry of frame data over its address, or else of the last entry of FPO data, or else
-0. The script prints each difference, and how many records were compared.
+PUBLIC record is that of the last entry of frame data over its address. If there is none, it is that of the last entry
+of FPO data, or 0. The script prints each difference, and how many records were compared.
 """
 import re
 import subprocess

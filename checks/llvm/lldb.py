@@ -1,5 +1,5 @@
 #!/usr/bin/env python3
-"""Compares what lldb finds at addresses with a symbol file of `pdb_symbolizer --dump-syms` with the program's own
+"""Has lldb read the symbol file of `pdb_symbolizer --dump-syms`, and compares what lldb prints with the program's
 answers.
 
 Usage: lldb.py PROGRAM EXE [COUNT [LLDB]]

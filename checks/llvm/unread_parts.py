@@ -3,12 +3,11 @@
 
 Usage: unread_parts.py PROGRAM EXE FIRST LAST
 
-EXE is a program with its PDB file in the same folder. For each of PARTS a copy of the PDB file is written with that
-part broken, such as types of an old version, no types, or public symbols in a stream that doesn't exist. Both programs
-look up each address from FIRST to LAST, relative to the load address. If their answers over the whole file agree at an
-address, the answers over the copy must have the same number of frames, with the same files and lines. If LLVM's program
-crashes, its answers over the whole file are used. The exit status is 1 if an answer differs, or if no line on standard
-error says what can't be read.
+EXE is a program with its PDB file in the same folder. For each of PARTS, a copy of the PDB file is written with that
+part broken. An example is public symbols in a stream that doesn't exist. Both programs look up each address from FIRST
+to LAST, relative to the load address. If their answers over the whole file agree at an address, the answers over the
+copy must have the same frames, by file and line. If LLVM's program crashes, its answers over the whole file are used.
+The exit status is 1 if an answer differs, or if no line on standard error says what can't be read.
 """
 import json
 import pathlib

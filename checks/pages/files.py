@@ -6,7 +6,8 @@ Usage: files.py            checks whether the page is up to date
 
 The first line of each file in a crate's `src` is a comment, `//!` or `//`, with one whole sentence about the file's
 contents. The page has a paragraph for each crate. Crates that depend on others come before them. The script fails if
-the page is out of date, if a file has no such line, or if a crate has no row in the table of docs/ARCHITECTURE.md.
+the page is out of date or a file has no such line. It also fails if a crate has no row in the table of
+docs/ARCHITECTURE.md.
 """
 import pathlib
 import re

@@ -57,7 +57,7 @@ def feed(process, path):
 
 def answers_of(words, path, count, sample):
     """Runs one process over a file of requests. Returns the number of lines and bytes that it wrote, the lines of the
-    sample, its exit status, its time and CPU time, and its peak memory."""
+    sample, its exit status, its times, and its peak memory."""
     lines, length, kept, peak, start = 0, 0, {}, 0, time.monotonic()
     process = subprocess.Popen(words, stdin=subprocess.PIPE, stdout=subprocess.PIPE)
     feeder = threading.Thread(target=feed, args=(process, path))

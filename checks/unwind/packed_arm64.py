@@ -15,8 +15,8 @@ SIGNED, CHAINED = 2, 3
 
 
 class Frame:
-    """A set of registers: how many from x19 on, how many from d8 on minus one, whether x0 to x7 are stored, and the
-    field CR, which says what happens with x30."""
+    """A set of registers: the number from x19 on, the number from d8 on minus one, and whether x0 to x7 are stored.
+    `link` is the field CR, which says what happens with x30."""
 
     def __init__(self, registers, floats, homed, link):
         self.registers, self.floats, self.homed, self.link = registers, floats, homed, link

@@ -440,9 +440,9 @@ def lines():
 
 
 def lines_of_more_procedures():
-    """Returns a subsection of lines over three procedures of 32 bytes, the first of which is at its start. If two rows
-    have the same offset, the last one wins. Each procedure has an entry with its own rows. The row that covers the
-    procedure's start is moved to it."""
+    """Returns a subsection of lines over three procedures of 32 bytes. The first is at the subsection's start. If two
+    rows have the same offset, the last one wins. Each procedure has an entry: the row that covers its start (or the
+    first row after it), moved to the start, and all later rows."""
     of_first = u32(0, 2, 12 + 2 * 8) + u32(4, 20, 4, 21)
     of_last = u32(16, 1, 12 + 8) + u32(0x30, 22)
     content = u32(0x220) + u16(1, 0) + u32(0x60) + of_first + of_last

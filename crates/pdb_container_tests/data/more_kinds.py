@@ -86,8 +86,8 @@ LAST = 14
 
 
 def module_code():
-    """Returns subsections of lines in two sections and with columns, each kind twice, one that is marked as ignored,
-    and three imports."""
+    """Returns subsections of lines in two sections, one of them with columns, and one that is marked as ignored. There
+    are two subsections of imports and two of exports, and three imports."""
     files = subsection(0xF4, u32(1) + u8(0, 0) + u16(0) + u32(7) + u8(0, 0) + u16(0))
     inlinees = subsection(0xF6, u32(1) + u32(0x1000, 0, 50) + u32(1, 8))
     columns = u32(0, 2, 12 + 2 * 8 + 2 * 4) + u32(0, 7, 4, 8) + u16(1, 2, 3, 4)

@@ -3,8 +3,11 @@
 
 Usage: write_files.py FOLDER
 
-FOLDER is the folder of the crate. It gets the file `args` (the names of the PDB files, and of the records file in
-`data`), the file `stdout` (the expected output for all of them, in order), and `data/NAME` for each PDB file.
+FOLDER is the folder of the crate. It gets these files:
+
+  - `args`: the names of the PDB files, and of the records file in `data`
+  - `stdout`: the expected output for all of them, in order
+  - `data/NAME`: each PDB file
 """
 import pathlib
 import sys

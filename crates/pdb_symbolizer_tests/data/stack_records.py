@@ -105,7 +105,7 @@ def info(image, rva):
 
 
 def finish(base, k, saved, trapped):
-    """Returns the rules if the stack pointer at the return address is `k` bytes above a register."""
+    """Returns the rules if the return address is stored `k` bytes above a register's value."""
     if trapped:
         return {"cfa": ("load", base, k + 24), "ra": (base, k), "saved": saved}
     return {"cfa": ("sum", base, k + 8), "ra": (base, k), "saved": saved}

@@ -418,7 +418,7 @@ def broken_cases():
 
 def module_cases():
     """Yields cases of a file whose answers need parts of other modules: a type that an import leads to, a chunk's
-    function, and the size of an array's elements, which is in a type record that no index leads to. All of them are
+    function, and the size of an array's elements. The size is in a type record that no index leads to. All of them are
     read with the module of the address."""
     file, f, g = "pdb_symbolizer -p parts_of_other_modules.pdb", "f(int) at ??:0:0\n\n", "g(int) at ??:0:0\n\n"
     yield f"{file} 0x1100", f + ENDED

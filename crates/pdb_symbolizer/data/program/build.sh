@@ -1,5 +1,5 @@
 #!/bin/sh
-# Builds the program of this folder with clang and lld in a temporary folder, and copies the program and its PDB file to
+# Builds the program of this folder with clang and lld, in a temporary folder. Copies the program and its PDB file to
 # the folder above this one.
 set -e
 here=$(cd "$(dirname "$0")" && pwd)
