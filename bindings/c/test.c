@@ -2,7 +2,7 @@
  *
  *     test SHAPES FOLDER MODULES
  *
- * They are crates/pdb_symbolizer/data/shapes.pdb, crates/pdb_container_tests/data and
+ * The arguments are crates/pdb_symbolizer/data/shapes.pdb, crates/pdb_container_tests/data and
  * crates/pdb_report_tests/data/modules. The exit status is 1 if a result is not the expected one.
  */
 #include <stdio.h>

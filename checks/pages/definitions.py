@@ -2,8 +2,7 @@
 """Checks that each definition in `specs` has a comment, and writes docs/DEFINITIONS.md with the lists of all
 definitions.
 
-Usage: definitions.py         checks that each definition has a comment, and each crate with definitions a place in the
-page
+Usage: definitions.py         checks that each definition has a comment, and each crate with definitions has a mark
        definitions.py FILE    also writes the page with the lists to FILE
 
 The comment right above a public definition describes it in one sentence. A mark in the page, `<!-- definitions of CRATE

@@ -1,9 +1,9 @@
 #!/bin/sh
 # Builds collections.rs over Rust's own core and alloc, as a Windows program for x64 that imports nothing.
 #
-# Usage: build_rust.sh OUT LEVEL     LEVEL is the level of optimisation (0, 2, s). Needs Debian's rustc, rust-src,
-# clang-22
-#                                    and lld-22. Writes OUT/collections.exe and OUT/collections.pdb
+# Usage: build_rust.sh OUT LEVEL     LEVEL is the level of optimisation (0, 2, s)
+#
+# The script writes OUT/collections.exe and OUT/collections.pdb. It needs Debian's rustc, rust-src, clang-22 and lld-22.
 set -eu
 out=$1 level=$2
 here=$(dirname "$(readlink -f "$0")")

@@ -2,8 +2,8 @@
  *
  *     refusals RECORDS FAILING_PARTS
  *
- * They are small_x64.json and failing_parts.json of crates/pdb_report_tests/data. The exit status is 1 if an answer is
- * not the expected one.
+ * The arguments are small_x64.json and failing_parts.json of crates/pdb_report_tests/data. The exit status is 1 if an
+ * answer is not the expected one.
  */
 #include <string.h>
 
