@@ -35,7 +35,8 @@ ADDRESSES = [0x1000, 0x1020, 0x1050, 0x1100, 0x1104, 0x1120, 0x1200, 0x1204, 0x1
 
 
 def change(root, chance):
-    """Makes a random change to a random file. Raises OSError if it can't, such as if a folder has the file's name."""
+    """Makes a random change to a random file. Raises OSError if it can't, for example because a folder has the file's
+    name."""
     # File times of the system have steps of a few milliseconds.
     time.sleep(0.02)
     place = root / chance.choice(FOLDERS) / chance.choice(PLACES)

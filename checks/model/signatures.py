@@ -87,7 +87,7 @@ class Formatter(TypeReader):
     # ------------------------------------------------------------ functions
 
     def print_function(self, module, name, index, out):
-        """Prints a function. If the type isn't a function's, prints only the name."""
+        """Prints a function. If the type isn't a function's, prints only the name, even if it is empty."""
         function = self.read(module, index)
         note(f"function of kind {function.kind}")
         if function.kind == "MemberFunction":
