@@ -117,4 +117,6 @@ def main(words):
 
 
 if __name__ == "__main__":
+    if len(sys.argv) == 1:
+        sys.exit(__doc__)
     sys.exit(main(sys.argv[1:]))

@@ -22,14 +22,20 @@ def is_code(line):
     return len(text) > 12 and not text.startswith(("//", "use ", "ghost use", "#[", "pub use", "mod ", "pub mod"))
 
 
+def crate_of(path):
+    """Returns the name of the crate that has a file."""
+    return path.relative_to(ROOT / "crates").parts[0]
+
+
 def main(words):
     count, seed, places = int(words[0]), int(words[1]), "--places" in words
-    files = sorted(path for path in (ROOT / "crates").glob("*/src/**/*.rt") if not path.parts[-3].endswith("_tests"))
+    crates = ROOT / "crates"
+    files = sorted(path for path in crates.glob("*/src/**/*.rt") if not crate_of(path).endswith("_tests"))
     lines = [(path, at) for path in files for at, line in enumerate(path.read_text(encoding="utf-8").split("\n"))
              if is_code(line)]
     for number, (path, at) in enumerate(random.Random(seed).sample(lines, count), start=1):
         if places:
-            print(f"{number}. {path.parts[-3]} {path.name}:{at + 1}")
+            print(f"{number}. {crate_of(path)} {path.name}:{at + 1}")
         else:
             text = path.read_text(encoding="utf-8").split("\n")[max(at - AROUND, 0):at + AROUND + 1]
             print(f"--- {number}", *text, sep="\n")
@@ -37,4 +43,6 @@ def main(words):
 
 
 if __name__ == "__main__":
+    if len(sys.argv) == 1:
+        sys.exit(__doc__)
     sys.exit(main(sys.argv[1:]))

@@ -303,7 +303,7 @@ def habit_cases(folder):
         2 * STACK.replace(ENDED, "") + "typed at C:\\b/c.h:7:0\n\n" + error(f"cannot read nowhere.pdb: {MISSING}") + \
         "?? at ??:0:0\n\n" + STACK.replace(ENDED, "status 1\n")
     yield from unopened_cases(folder)
-    stack = STACK.replace(":0\n", "\n").replace("\n\n", "\n").replace("\nstatus", "\nstatus")
+    stack = STACK.replace(":0\n", "\n").replace("\n\n", "\n")
     yield "addr2line -e shapes.exe 140001136", "C:\\shapes\\shapes.h:10\n" + ENDED
     yield "addr2line -e shapes.exe -i 140001136", "C:\\shapes\\shapes.h:10\nC:\\shapes\\main.cpp:29\nC:\\shapes\\main.cpp:36\n" + ENDED
     yield "llvm-addr2line -e shapes.exe -fipC 0x140001136", stack
