@@ -5,7 +5,7 @@ use Rattle.std.proofs.lemmas.Bool.Decides.{nat_tests}
 use Rattle.std.specs.Prelude.{Option, None, Some, Result, Ok, Err, nat_lt, option_and_then}
 use Rattle.pdb_source_urls.specs.Expansion.{Found, Given, Gives, Smaller, Value, expand, expand_from, field, found_seen}
 use Rattle.pdb_source_urls.specs.Expansion.{next, value_seen}
-use Rattle.pdb_source_urls.specs.SourceServer.{cut_at}
+use Rattle.pdb_source_urls.specs.TextCuts.{cut_at}
 use Rattle.pdb_source_urls.specs.declared.expansion.ExpandError.{ExpandError}
 use Rattle.pdb_source_urls.specs.declared.expansion.ExpandError.TheVariants.{NoValue, OutOfMemory}
 use Rattle.pdb_source_urls.specs.declared.expansion.Expanded.{Expanded}

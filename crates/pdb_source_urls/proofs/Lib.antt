@@ -4,5 +4,6 @@ pub mod JsonLemmas
 mod LinkExamples
 pub mod NumberedLemmas
 mod ServerExamples
+pub mod ServerFileLemmas
 pub mod ServerLemmas
 pub mod TextLemmas

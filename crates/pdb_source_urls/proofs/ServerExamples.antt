@@ -4,7 +4,8 @@ use Rattle.std.specs.Prelude.{None, Option, Some, ⊤, replicate}
 use Rattle.std.specs.Str.{chars, is_utf8}
 use Rattle.pdb_source_urls.specs.Expansion.{Given, Value, added, expand, value_of}
 use Rattle.pdb_source_urls.specs.ServerUrls.{server_url, target}
-use Rattle.pdb_source_urls.specs.SourceServer.{Definition, Server, file_of, server_of}
+use Rattle.pdb_source_urls.specs.ServerFiles.{file_of}
+use Rattle.pdb_source_urls.specs.SourceServer.{Definition, Server, server_of}
 use Rattle.pdb_source_urls.specs.SourceUrls.{Urls, url_of}
 
 -- the definitions of expansion and of UTF-8, which the examples compute

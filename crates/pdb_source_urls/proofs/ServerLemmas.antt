@@ -5,8 +5,9 @@ use Rattle.std.proofs.Common.{add-one, length-drop}
 use Rattle.std.specs.Prelude.{Option, None, Some, if◌then◌else◌, option_map, unwrap_or}
 use Rattle.std.specs.List.{onto_first}
 use Rattle.std.specs.Option.{option_map_or}
-use Rattle.pdb_source_urls.specs.SourceServer.{Server, after_line, first_line, lines, place_of, section_of}
+use Rattle.pdb_source_urls.specs.SourceServer.{Server, after_line, first_line, lines, section_of}
 use Rattle.pdb_source_urls.specs.SourceServer.{with_line_by, with_lines, without_return}
+use Rattle.pdb_source_urls.specs.TextCuts.{place_of}
 use Rattle.pdb_source_urls.specs.declared.source_server.Section.{Section}
 
 -- the lines of a text that isn't empty, by the position of its first line feed

@@ -4,7 +4,8 @@ use Rattle.std.specs.Prelude.{◌≡◌, length, map, Option, Some, None, option
 use Rattle.std.specs.Prelude.{Result, Ok, Err}
 use Rattle.std.specs.Char.{is_ascii_digit}
 use Rattle.pdb_source_urls.specs.PathNames.{alike, base_name, begins_with}
-use Rattle.pdb_source_urls.specs.SourceServer.{Definition, around, cut_at, definition_seen, first_field}
+use Rattle.pdb_source_urls.specs.SourceServer.{Definition, definition_seen}
+use Rattle.pdb_source_urls.specs.TextCuts.{around, cut_at, first_field}
 use Rattle.pdb_source_urls.specs.declared.expansion.Function.{Function}
 use Rattle.pdb_source_urls.specs.declared.expansion.Function.TheVariants.{Backslashes, BaseName, ValueOf}
 use Rattle.pdb_source_urls.specs.declared.expansion.Part.{Part}

@@ -1,6 +1,8 @@
 pub mod PathNames
 pub mod SourceLinks
 pub mod LinkUrls
+pub mod TextCuts
+pub mod ServerFiles
 pub mod SourceServer
 pub mod NamedStreams
 pub mod SourceUrls

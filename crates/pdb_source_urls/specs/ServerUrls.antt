@@ -4,7 +4,8 @@ use Rattle.std.specs.Prelude.{length, option_and_then, if◌then◌else◌}
 use Rattle.std.specs.Str.{is_utf8}
 use Rattle.pdb_source_urls.specs.Expansion.{Value, expand, most_text, value_of, variable_value}
 use Rattle.pdb_source_urls.specs.PathNames.{alike}
-use Rattle.pdb_source_urls.specs.SourceServer.{Definition, File, Server, text_begins}
+use Rattle.pdb_source_urls.specs.ServerFiles.{File}
+use Rattle.pdb_source_urls.specs.SourceServer.{Definition, Server, text_begins}
 
 -- how deeply values may nest
 abbrev pub most_depth : ℕ

@@ -1,9 +1,10 @@
 -- Source server data: a text of sections, with variables and a line for each source file.
-use Rattle.std.specs.Prelude.{ℕ, ◌+◌, ◌-◌, ◌==◌, Bool, nat_lt, List, [], ◌∷◌, ◌++◌, codes, drop, length, map, take}
-use Rattle.std.specs.Prelude.{slice_index, Option, Some, None, option_map, unwrap_or, if◌then◌else◌}
+use Rattle.std.specs.Prelude.{ℕ, ◌-◌, ◌==◌, Bool, nat_lt, List, [], ◌∷◌, ◌++◌, codes, length, map, take}
+use Rattle.std.specs.Prelude.{slice_index, Option, Some, None, unwrap_or, if◌then◌else◌}
 use Rattle.std.specs.List.{onto_first, starts_with}
 use Rattle.std.specs.Option.{option_map_or}
-use Rattle.pdb_source_urls.specs.declared.source_server.FileLine.{FileLine}
+use Rattle.pdb_source_urls.specs.ServerFiles.{File, file_of}
+use Rattle.pdb_source_urls.specs.TextCuts.{cut_at}
 use Rattle.pdb_source_urls.specs.declared.source_server.Section.{Section}
 use Rattle.pdb_source_urls.specs.declared.source_server.Section.TheVariants.{Files, Other, Variables}
 use Rattle.pdb_source_urls.specs.declared.source_server.SourceServer.{SourceServer}
@@ -14,11 +15,6 @@ pub record Definition : Type 0 where
   pub name : List ℕ
   pub value : List ℕ
 
--- a source file, by its name and its line
-pub record File : Type 0 where
-  pub name : List ℕ
-  pub line : List ℕ
-
 -- source server data: the variables in the order of their definitions, and the source files in that of their lines
 pub record Server : Type 0 where
   pub variables : List Definition
@@ -28,37 +24,9 @@ pub record Server : Type 0 where
 abbrev pub definition_seen : Variable → Definition
 definition_seen variable = record { name = variable.name.items; value = variable.value.items }
 
--- a source file, seen by its bytes
-abbrev pub file_seen : FileLine → File
-file_seen file = record { name = file.name.items; line = file.line.items }
-
 -- source server data, seen by its bytes
 abbrev pub server_seen : SourceServer → Server
-server_seen server = record {
-  variables = map definition_seen server.variables.items;
-  files = map file_seen server.files.items;
-}
-
--- the position of the first such byte in a text, if there is one
-abbrev pub place_of : ℕ → List ℕ → Option ℕ
-place_of stop [] = None
-place_of stop (byte ∷ text) = if byte == stop then Some 0 else option_map (λ place. place + 1) (place_of stop text)
-
--- the parts of a text before and after the byte at a position
-abbrev pub around : List ℕ → ℕ → List ℕ × List ℕ
-around text place = (take place text, drop (place + 1) text)
-
--- the parts of a text before and after the first such byte, if it has one
-abbrev pub cut_at : ℕ → List ℕ → Option (List ℕ × List ℕ)
-cut_at stop text = option_map (around text) (place_of stop text)
-
--- the first field of a line; there is a `*` between fields
-abbrev pub first_field : List ℕ → List ℕ
-first_field line = option_map_or (λ cut. cut.0) (cut_at 42 line) line
-
--- the source file of a line, whose first field is the name
-abbrev pub file_of : List ℕ → File
-file_of line = record { name = first_field line; line = line }
+server_seen server = record { variables = map definition_seen server.variables.items; files = server.files }
 
 -- the first line of a text: all up to the first line feed
 abbrev pub first_line : List ℕ → List ℕ

@@ -1,13 +1,15 @@
 //! Values of source server data, with the variables and functions in them expanded.
 
 ghost use Rattle.std.specs.Prelude.{◌≡◌, IfOk, map, option_map};
-ghost use Rattle.pdb_source_urls.specs.SourceServer.{around, definition_seen};
+ghost use Rattle.pdb_source_urls.specs.SourceServer.{definition_seen};
 ghost use Rattle.pdb_source_urls.specs.Expansion.{Gives, added, argument_of, call, field, field_value, fields_before};
 ghost use Rattle.pdb_source_urls.specs.Expansion.{found_seen, function_of, given, next, part_at, expand, value_of};
 ghost use Rattle.pdb_source_urls.specs.Expansion.{closing, value_seen, variable_value, with_backslash};
+ghost use Rattle.pdb_source_urls.specs.TextCuts.{around};
 
 use crate::path_names::{alike, base_name, begins_with};
-use crate::source_server::{Variable, cut_at, first_field};
+use crate::source_server::Variable;
+use crate::text_cuts::{cut_at, first_field};
 use pdb_msf::bytes_from;
 use std::alloc::{AllocError, AllocFailed, Global};
 

@@ -9,9 +9,11 @@ mod expansion;
 mod link_urls;
 mod named_streams;
 mod path_names;
+mod server_files;
 mod server_urls;
 mod source_links;
 mod source_server;
 mod source_urls;
+mod text_cuts;
 
 pub use source_urls::{SourceUrls, read_source_urls};

@@ -1,7 +1,10 @@
 //! Names of files, in which letters from A to Z count as those from a to z.
 
-ghost use Rattle.std.specs.Prelude.{◌≡◌};
+ghost use Rattle.std.specs.Prelude.{◌≡◌, IfOk};
+ghost use Rattle.std.specs.Str.{str_to_ascii_lowercase};
 ghost use Rattle.pdb_source_urls.specs.PathNames.{alike, base_name, begins_with, is_slash};
+
+use std::alloc::{AllocError, Global};
 
 /// Whether a name begins with a path.
 #[tactic(auto, using(crate::proofs::PathNameLemmas::short_name))]
@@ -24,6 +27,15 @@ pub(crate) fn alike(name: &[u8], other: &[u8]) -> bool
     ensures { result ≡ alike name.now other.now }
 {
     name.len() == other.len() && begins_with(name, other)
+}
+
+/// A name with its letters from A to Z in lower case. Names are the same exactly if they are equal in lower case.
+pub(crate) fn lower_case(alloc: Global, name: &[u8]) -> Result<Vec<u8>, AllocError>
+    ensures { IfOk result (λ lower. lower.items ≡ str_to_ascii_lowercase name.now) }
+{
+    let mut lower = Vec::from_slice(alloc, name)?;
+    lower.make_ascii_lowercase();
+    Ok(lower)
 }
 
 /// What follows the last slash of a path; all where there is none.

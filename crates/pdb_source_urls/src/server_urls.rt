@@ -2,12 +2,11 @@
 
 ghost use Rattle.std.specs.Prelude.{◌≡◌, IfOk, map, option_map, string_bytes};
 ghost use Rattle.pdb_source_urls.specs.Expansion.{Gives, value_seen};
-ghost use Rattle.pdb_source_urls.specs.ServerUrls.{file_line, line_url, server_url, target, url_in};
-ghost use Rattle.pdb_source_urls.specs.SourceServer.{definition_seen, file_seen, server_seen};
+ghost use Rattle.pdb_source_urls.specs.ServerUrls.{line_url, server_url, target, url_in};
+ghost use Rattle.pdb_source_urls.specs.SourceServer.{definition_seen, server_seen};
 
 use crate::expansion::{ExpandError, Expanded, MOST_TEXT, Sources, value_of, variable_value};
-use crate::path_names::alike;
-use crate::source_server::{FileLine, SourceServer, Variable};
+use crate::source_server::{SourceServer, Variable};
 use std::alloc::{AllocError, Global};
 
 /// How deeply values may nest.
@@ -21,22 +20,10 @@ pub(crate) fn server_url(
 ) -> Result<Option<String>, AllocError>
     ensures { IfOk result (λ url. option_map string_bytes url ≡ server_url (server_seen server.now) file.now) }
 {
-    match file_line(&server.files, file) {
+    match server.files.line(alloc, file)? {
         Some(line) => line_url(alloc, &server.variables, line),
         None => Ok(None),
     }
-}
-
-// The line of the first source file of this name.
-fn file_line<'f>(files: &'f [FileLine], name: &str) -> Option<&'f [u8]>
-    ensures { option_map (λ line. line.now) result ≡ file_line name.now (map file_seen files.now) }
-{
-    for file in files {
-        if alike(&file.name, name.as_bytes()) {
-            return Some(&file.line);
-        }
-    }
-    None
 }
 
 // The URL by the line of a file, if there is one.

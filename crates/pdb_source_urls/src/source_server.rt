@@ -1,11 +1,13 @@
 //! Source server data: a text of sections, with variables and a line for each source file.
 
-ghost use Rattle.std.specs.Prelude.{◌≡◌, ◌<◌, [], ◌∷◌, ◌++◌, IfOk, OnOk, length, map, option_map};
-ghost use Rattle.pdb_source_urls.specs.SourceServer.{cut_at, definition_seen, file_of, file_seen, section_of};
-ghost use Rattle.pdb_source_urls.specs.SourceServer.{first_field, server_of, server_seen};
+ghost use Rattle.std.specs.Prelude.{◌≡◌, IfOk, OnOk, map};
+ghost use Rattle.pdb_source_urls.specs.SourceServer.{definition_seen, section_of, server_of, server_seen};
 ghost use Rattle.pdb_source_urls.specs.SourceServer.{with_definition, with_line, with_line_by, without_return};
 ghost use Rattle.pdb_source_urls.specs.SourceServer.{after_line, first_line};
+ghost use Rattle.pdb_source_urls.specs.TextCuts.{cut_at};
 
+use crate::server_files::ServerFiles;
+use crate::text_cuts::cut_at;
 use std::alloc::{AllocError, Global};
 
 /// How many definitions of variables count at most.
@@ -17,7 +19,7 @@ pub(crate) struct SourceServer {
     /// In the order of their definitions.
     pub(crate) variables: Vec<Variable>,
     /// In the order of their lines.
-    pub(crate) files: Vec<FileLine>,
+    pub(crate) files: ServerFiles,
 }
 
 /// A variable.
@@ -25,15 +27,6 @@ pub(crate) struct SourceServer {
 pub(crate) struct Variable {
     pub(crate) name: Vec<u8>,
     pub(crate) value: Vec<u8>,
-}
-
-/// A source file.
-#[derive(Drop)]
-pub(crate) struct FileLine {
-    /// The first field of the line.
-    pub(crate) name: Vec<u8>,
-    /// Fields with a `*` between them.
-    pub(crate) line: Vec<u8>,
 }
 
 /// What the lines of a section are.
@@ -54,7 +47,7 @@ pub(crate) fn read_server(alloc: Global, text: &[u8]) -> Result<SourceServer, Al
 {
     let mut server = SourceServer {
         variables: Vec::new(alloc),
-        files: Vec::new(alloc),
+        files: ServerFiles::new(alloc),
     };
     let mut section = Section::Other;
     let mut rest = text;
@@ -89,7 +82,7 @@ fn add_line(server: &mut SourceServer, section: Section, line: &[u8]) -> Result<
 {
     match section {
         Section::Variables => add_variable(&mut server.variables, line),
-        Section::Files => add_file(&mut server.files, line),
+        Section::Files => server.files.push(line),
         Section::Other => Ok(()),
     }
 }
@@ -112,30 +105,6 @@ fn add_variable(variables: &mut Vec<Variable>, line: &[u8]) -> Result<(), AllocE
     };
     variables.push(variable)?;
     Ok(())
-}
-
-// Adds the source file of a line.
-fn add_file(files: &mut Vec<FileLine>, line: &[u8]) -> Result<(), AllocError>
-    ensures { OnOk result (map file_seen files.new.items
-        ≡ map file_seen files.old.items ++ file_of line.now ∷ []) }
-{
-    let alloc = *files.allocator();
-    let file = FileLine {
-        name: Vec::from_slice(alloc, first_field(line))?,
-        line: Vec::from_slice(alloc, line)?,
-    };
-    files.push(file)?;
-    Ok(())
-}
-
-/// The first field of a line; there is a `*` between fields.
-pub(crate) fn first_field(line: &[u8]) -> &[u8]
-    ensures { result.now ≡ first_field line.now }
-{
-    match cut_at(line, b'*') {
-        Some((field, _)) => field,
-        None => line,
-    }
 }
 
 // The first line of a text, without its end, and the text after it.
@@ -171,18 +140,6 @@ fn section_of(line: &[u8]) -> Option<Section>
     }
     if line.starts_with(b"SRCSRV: end") {
         return Some(Section::Other);
-    }
-    None
-}
-
-/// The parts of a text before and after the first such byte, if it has one.
-pub(crate) fn cut_at(text: &[u8], stop: u8) -> Option<(&[u8], &[u8])>
-    ensures { option_map (λ cut. (cut.0.now, cut.1.now)) result ≡ cut_at stop text.now }
-{
-    for (place, &byte) in text.iter().enumerate() {
-        if byte == stop {
-            return Some((&text[..place], &text[place + 1..]));
-        }
     }
     None
 }

@@ -7,6 +7,7 @@ ghost use Rattle.pdb_source_urls.specs.SourceUrls.{url_of, urls_of};
 
 use crate::link_urls::link_url;
 use crate::named_streams::{NamedData, read_named};
+use crate::server_files::ServerFiles;
 use crate::server_urls::server_url;
 use crate::source_server::SourceServer;
 use pdb_msf::{MsfLayout, OpenError, Source};
@@ -61,7 +62,7 @@ impl SourceUrls {
                 links: Vec::new(alloc),
                 server: SourceServer {
                     variables: Vec::new(alloc),
-                    files: Vec::new(alloc),
+                    files: ServerFiles::new(alloc),
                 },
             },
         }
