@@ -5,16 +5,12 @@ is loaded. PDB files are in a folder as symbol servers have them: STORE/app.pdb/
 
 First each partition of the bag lists its different frames, by PDB file. Then one task for each PDB file opens it and
 looks up the offsets of all partitions. Last, each partition puts the answers into its stacks.
-
-A task costs the scheduler about a millisecond. So a task's result is split into few pieces: a group takes what it needs
-from all that a partition asks for, and the answers for several partitions are one bundle.
 """
 from __future__ import annotations
 
 import collections
 import os
 import pathlib
-import pickle
 import re
 import threading
 import zlib
@@ -28,7 +24,6 @@ if TYPE_CHECKING:
 MOST_GROUPS = 64
 # Each partition sends something to each group, so there are fewer groups than partitions.
 PARTS_PER_GROUP = 3
-MOST_BUNDLES = 8
 MOST_PROGRAMS = 64
 PAGE_BITS = 12
 NEEDED = ("limberlime.symbolicate_bag needs Dask: install Debian's package python3-distributed, or run "
@@ -92,12 +87,11 @@ def symbolicate_bag(bag: dask.bag.Bag, store: os.PathLike, *, groups: Optional[i
         raise ImportError(NEEDED) from error
     parts = [dask.delayed(list)(part) for part in bag.to_delayed()]
     groups = groups or min(max(len(parts) // PARTS_PER_GROUP, 1), MOST_GROUPS)
-    asked = [dask.delayed(_asked)(part, groups, tasks_per_file) for part in parts]
-    size = -(-len(parts) // MOST_BUNDLES)
-    answer = dask.delayed(_answered, nout=-(-len(parts) // size))
-    answers = [answer(os.fspath(store), asked, group, size) for group in range(groups)]
+    asked = [dask.delayed(_asked, nout=groups)(part, groups, tasks_per_file) for part in parts]
+    answer = dask.delayed(_answered, nout=len(parts))
+    answers = [answer(os.fspath(store), [one[group] for one in asked]) for group in range(groups)]
     join = dask.delayed(_joined)
-    stacks = [join(part, [one[place // size] for one in answers], place % size) for place, part in enumerate(parts)]
+    stacks = [join(part, [one[place] for one in answers]) for place, part in enumerate(parts)]
     return dask.bag.from_delayed(stacks)
 
 
@@ -121,17 +115,14 @@ def _number(file: File) -> int:
     return zlib.crc32(f"{file[0]}/{file[1].upper()}".encode("utf-8", "replace"))
 
 
-def _answered(store: str, asked: List[List[Asked]], group: int, size: int) -> List[List[bytes]]:
-    """The answers of a group, for each partition. Bundles have those for so many partitions each. Answers are pickled,
-    so a worker that gets a bundle unpickles only those that it needs."""
-    wanted = [one[group] for one in asked]
+def _answered(store: str, asked: List[Asked]) -> List[Answers]:
+    """The answers of a group, for each partition."""
     offsets = collections.defaultdict(set)
-    for one in wanted:
+    for one in asked:
         for file, some in one.items():
             offsets[file].update(some)
     known = {file: _file_answers(store, file, sorted(some)) for file, some in offsets.items()}
-    answers = [pickle.dumps({file: _part(known[file], some) for file, some in one.items()}) for one in wanted]
-    return [answers[start:start + size] for start in range(0, len(answers), size)]
+    return [{file: _part(known[file], some) for file, some in one.items()} for one in asked]
 
 
 def _file_answers(store: str, file: File, offsets: List[int]) -> FileAnswers:
@@ -158,12 +149,11 @@ def _part(known: FileAnswers, offsets: List[int]) -> FileAnswers:
     return FileAnswers(known.found, [known.places[number] for number in numbers], part)
 
 
-def _joined(stacks: List, bundles: List[List[bytes]], position: int) -> List[List[StackFrame]]:
-    """The stacks of a partition with the answers of all groups, which are at this position in each bundle."""
+def _joined(stacks: List, answers: List[Answers]) -> List[List[StackFrame]]:
+    """The stacks of a partition with the answers of all groups."""
     known: Dict[File, Dict[int, StackFrame]] = collections.defaultdict(dict)
-    for bundle in bundles:
-        answers: Answers = pickle.loads(bundle[position])
-        for file, (found, places, numbers) in answers.items():
+    for one in answers:
+        for file, (found, places, numbers) in one.items():
             frames = known[file]
             for offset, number in numbers.items():
                 frames[offset] = StackFrame(*file, offset, found, *places[number])
