@@ -53,7 +53,8 @@ inlined_frames strings program name_of ranges =
 
 -- the frames of code with this location, from inside to outside: those of the inlined bodies, and last that of the
 -- function itself
-abbrev pub code_location_frames : Strings → (IdIndex → Option (List ℕ)) → Option (List ℕ) → CodeLocation → List FrameInfo
+abbrev pub code_location_frames : Strings → (IdIndex → Option (List ℕ)) → Option (List ℕ) → CodeLocation
+    → List FrameInfo
 code_location_frames strings name_of name o =
     reverse (inlined_frames strings o.line_program name_of o.stack)
     ++ own_frame strings name o.line_program o.row ∷ []

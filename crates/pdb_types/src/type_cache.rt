@@ -88,7 +88,8 @@ impl<'a> TypeCache<'a> {
         ensures named { (link : LinkInputs) → HoldsOfEach nat_cmp (IsModuleUnder link) result.named.made }
         ensures exports { (link : LinkInputs) → HoldsOfEach nat_cmp (AreExportsOf link) result.exports.made }
         ensures forward { result.forward_sizes ≡ None }
-        ensures sizes { (size_of : ℕ → ℕ → TypeSize) → HoldsOfEach size_question_cmp (IsSizeOf size_of) result.sizes.made }
+        ensures sizes { (size_of : ℕ → ℕ → TypeSize)
+            → HoldsOfEach size_question_cmp (IsSizeOf size_of) result.sizes.made }
         ensures failed { result.failed ≡ [] }
     {
         TypeCache {
