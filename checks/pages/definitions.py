@@ -1,6 +1,6 @@
 #!/usr/bin/env python3
-"""Checks that each definition in `specs` has a comment, and writes docs/DEFINITIONS.md with the lists of all
-definitions.
+"""Checks that each definition in `specs` has a comment. On demand it writes a copy of docs/DEFINITIONS.md with the
+lists of all definitions.
 
 Usage: definitions.py         checks that each definition has a comment, and each crate with definitions has a mark
        definitions.py FILE    also writes the page with the lists to FILE
