@@ -23,8 +23,8 @@ ROOT = HERE.parents[1]
 # The tests to run for a bug, by the name of its crate or file. All other bugs belong to the readers.
 SYMBOLIZER = "pdb_symbolizer_tests"
 RUNS = {name: SYMBOLIZER for name in (
-    "pdb_symbolizer_lib", "pdb_answer_printer", "pdb_symbolication", "pdb_session", "pdb_identity", "identity.rt",
-    "block_reads.rt", "stream_subset.rt", "msf_layout.rt", "type_places.rt")}
+    "pdb_symbolizer_lib", "pdb_symbolizer_input", "pdb_answer_printer", "pdb_symbolication", "pdb_session",
+    "pdb_identity", "identity.rt", "block_reads.rt", "stream_subset.rt", "msf_layout.rt", "type_places.rt")}
 READERS = "pdb_container_tests"
 
 

@@ -22,7 +22,7 @@ use Rattle.pdb_symbolizer_lib.specs.AnsweredRequests.{AreFramesOver}
 use Rattle.pdb_symbolizer_lib.specs.AnsweredRequests.{IsAnswer, IsAnswerBy, asked_address, asks_more, code_address}
 use Rattle.pdb_symbolizer_lib.specs.AnsweredRequests.{question_by, scanned_frames}
 use Rattle.pdb_symbolizer_lib.specs.AnswersInOrder.{AnswerEach}
-use Rattle.pdb_symbolizer_lib.specs.ImageBases.{relative}
+use Rattle.pdb_symbolizer_input.specs.ImageBases.{relative}
 use Rattle.pdb_symbolizer_lib.specs.declared.questions.Questions.{Questions}
 
 -- frames that are right at an address in one sense are right in another

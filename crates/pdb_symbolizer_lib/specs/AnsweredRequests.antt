@@ -1,5 +1,5 @@
 -- What is printed for a request, by the frames that are right for its address.
-use Rattle.std.specs.Prelude.{◌≡◌, ℕ, ◌+◌, Bool, false, List, [], Option, Some, None, map, option_map, unwrap_or}
+use Rattle.std.specs.Prelude.{◌≡◌, ℕ, Bool, false, List, [], Option, Some, None, map, option_map, unwrap_or}
 use Rattle.std.specs.Prelude.{Result, Ok, Err}
 use Rattle.std.specs.Option.{option_and_then, option_map_or}
 use Rattle.pdb_records.specs.Records.{Records}
@@ -23,14 +23,12 @@ use Rattle.pdb_answer_printer.specs.InputLineParser.{request_of}
 use Rattle.pdb_answer_printer.specs.InputLine.{Question, Target, AtAddress}
 use Rattle.pdb_answer_printer.specs.SourceTexts.{FrameSource}
 use Rattle.pdb_answer_printer.specs.declared.printer_options.Digits.{Digits}
-use Rattle.pdb_answer_printer.specs.declared.printer_options.NameStyle.{NameStyle}
-use Rattle.pdb_answer_printer.specs.declared.printer_options.NameStyle.TheVariants.{Short}
 use Rattle.pdb_answer_printer.specs.declared.input_line.Sort.{Sort}
 use Rattle.pdb_answer_printer.specs.declared.input_line.Sort.TheVariants.{Code}
-use Rattle.pdb_symbolizer_lib.specs.ImageBases.{relative}
+use Rattle.pdb_symbolizer_input.specs.ImageBases.{relative}
 use Rattle.pdb_symbolizer_lib.specs.PublicNames.{public_named}
-use Rattle.pdb_symbolizer_lib.specs.declared.options.FileNaming.{FileNaming}
-use Rattle.pdb_symbolizer_lib.specs.declared.options.FileNaming.TheVariants as naming
+use Rattle.pdb_symbolizer_input.specs.declared.options.FileNaming.{FileNaming}
+use Rattle.pdb_symbolizer_input.specs.declared.options.FileNaming.TheVariants as naming
 use Rattle.pdb_symbolizer_lib.specs.declared.questions.Questions.{Questions}
 
 -- the file for requests that don't name one; none if each line names its own
@@ -52,7 +50,7 @@ abbrev pub code_address : Sort → Target → (ℕ → Option ℕ) → Option �
 code_address Code (AtAddress given) relative = relative given
 code_address sort target relative = None
 
--- a text is the answer to the request in another text
+-- the address of the code that a text asks for, relative to where the program is loaded, if it fits 32 bits
 abbrev pub asked_address : Questions → List ℕ → Option ℕ
 asked_address questions text =
     let question = question_by questions text in
@@ -61,11 +59,6 @@ asked_address questions text =
 -- whether the answer to a text needs records that weren't read
 abbrev pub asks_more : Known → Questions → List ℕ → Bool
 asks_more known questions text = option_map_or (needs known) (asked_address questions text) false
-
--- the flags for printing names: the default ones, and for short names also the one that omits arguments
-abbrev pub flags_of : NameStyle → TypeFormatterFlags
-flags_of Short = record { 0 = 23 + 32 }
-flags_of names = record { 0 = 23 }
 
 -- the frames of an answer; none if it is refused
 abbrev pub frames_or_none : Result (Option FramesInfo) Error → Option FramesInfo

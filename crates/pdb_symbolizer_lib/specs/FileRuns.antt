@@ -4,12 +4,13 @@ use Rattle.std.specs.Borrow.{Bor}
 use Rattle.std.specs.Io.KnownBytes.{Keeps}
 use Rattle.pdb_records.specs.Records.{Records}
 use Rattle.pdb_session.specs.Session.{SessionFile}
-use Rattle.pdb_symbolizer_lib.specs.AnsweredRequests.{AnswersText, AreFramesOfFile, flags_of}
+use Rattle.pdb_symbolizer_lib.specs.AnsweredRequests.{AnswersText, AreFramesOfFile}
+use Rattle.pdb_symbolizer_input.specs.NameOptions.{flags_of}
 use Rattle.pdb_symbolizer_lib.specs.AnswersInOrder.{AnswersAllLines, AnswersInOrder, words_text}
 use Rattle.pdb_symbolizer_lib.specs.InputLines.{asked_lines}
-use Rattle.pdb_symbolizer_lib.specs.ImageBases.{image_base_of}
+use Rattle.pdb_symbolizer_input.specs.ImageBases.{image_base_of}
 use Rattle.pdb_symbolizer_lib.specs.PublicNames.{function_name, known_name}
-use Rattle.pdb_symbolizer_lib.specs.declared.options.Options.{Options}
+use Rattle.pdb_symbolizer_input.specs.declared.options.Options.{Options}
 use Rattle.pdb_symbolizer_lib.specs.declared.questions.Questions.{Questions}
 use Rattle.pdb_source_urls.specs.SourceUrls.{Urls}
 

@@ -1,9 +1,6 @@
 pub mod AnsweredRequests
 pub mod AnswersInOrder
 pub mod EarlyEnds
-pub mod ExitStatuses
-pub mod FileContents
 pub mod FileRuns
 pub mod InputLines
-pub mod ImageBases
 pub mod PublicNames

@@ -1,5 +1,5 @@
 -- Names of functions by the public symbols at their starts.
-use Rattle.std.specs.Prelude.{◌&&◌, ℕ, Bool, true, false, List, [], ◌∷◌, Option, Some, None, option_map}
+use Rattle.std.specs.Prelude.{ℕ, List, [], ◌∷◌, Option, Some, None, option_map}
 use Rattle.std.specs.Prelude.{option_and_then, Result, Ok, Err, if◌then◌else◌}
 use Rattle.std.specs.BTreeMap.{BTreeMap, get}
 use Rattle.std.specs.Option.{option_or}
@@ -15,20 +15,9 @@ use Rattle.pdb_records.specs.declared.symbols.SymbolData.TheVariants.{Public}
 use Rattle.pdb_records.specs.declared.symbols.SymbolTable.{SymbolTable}
 use Rattle.pdb_functions.specs.Starts.{section_offset_cmp}
 use Rattle.pdb_frames.specs.Frame.{FrameInfo, FramesInfo}
-use Rattle.pdb_answer_printer.specs.declared.printer_options.NameStyle.{NameStyle}
-use Rattle.pdb_answer_printer.specs.declared.printer_options.NameStyle.TheVariants.{Signature}
-use Rattle.pdb_symbolizer_lib.specs.declared.options.Options.{Options}
+use Rattle.pdb_symbolizer_input.specs.NameOptions.{shows_decorated_names}
+use Rattle.pdb_symbolizer_input.specs.declared.options.Options.{Options}
 use Rattle.pdb_symbolizer_lib.specs.declared.public_names.PublicNames.{PublicNames}
-
--- whether names are printed with the types of the arguments
-abbrev pub is_signature : NameStyle → Bool
-is_signature Signature = true
-is_signature style = false
-
--- whether functions are renamed by their public symbols: if the options ask for that, and names are printed with
--- arguments
-abbrev pub shows_decorated_names : Options → Bool
-shows_decorated_names options = options.decorated && is_signature options.printer.names
 
 -- the name of a symbol as text, if it is a public symbol at this section offset
 abbrev pub name_at : PdbInternalSectionOffset → Option SymbolData → Option (List ℕ)

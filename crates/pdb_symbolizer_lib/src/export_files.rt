@@ -1,12 +1,12 @@
 //! Writes the records file and the module files of `--export`.
 
-use crate::options::Export;
-use crate::run_errors::RunError;
-use crate::status_line::{StatusLine, Watched};
 use pdb_addr2line::Error;
 use pdb_addr2line::pdb::{ModuleInfo, PDB};
 use pdb_export::{ExportError, write_module, write_records};
 use pdb_records_files::{module_path, ran_out_of_memory};
+use pdb_symbolizer_input::options::Export;
+use pdb_symbolizer_input::run_errors::RunError;
+use pdb_symbolizer_input::status_line::{StatusLine, Watched};
 use std::alloc::Global;
 use std::rt::Files;
 use std::time::Clock;

@@ -1,23 +1,23 @@
 //! Opens one file, and answers the words of the command line or the lines of the input over it.
 
 ghost use Rattle.std.specs.Prelude.{string_bytes, IfErr};
-ghost use Rattle.pdb_symbolizer_lib.specs.AnsweredRequests.{flags_of};
+ghost use Rattle.pdb_symbolizer_input.specs.NameOptions.{flags_of};
 ghost use Rattle.pdb_symbolizer_lib.specs.EarlyEnds.{EndsAnswers, reads_input};
 ghost use Rattle.pdb_symbolizer_lib.specs.FileRuns.{RunsOver};
 
 use crate::line_answers::answer_input;
 use crate::line_queue::LineQueue;
-use crate::opened_files::{OpenedFile, open_file};
-use crate::options::{FileNaming, Options};
 use crate::outputs::{ByteStream, Output};
 use crate::public_names::PublicNames;
 use crate::questions::Questions;
-use crate::run_errors::RunError;
 use crate::run_state::RunState;
-use crate::status_line::StatusLine;
 use crate::unopened_files::end_unopened;
 use crate::word_answers::answer_words;
 use pdb_source_urls::SourceUrls;
+use pdb_symbolizer_input::opened_files::{OpenedFile, open_file};
+use pdb_symbolizer_input::options::{FileNaming, Options};
+use pdb_symbolizer_input::run_errors::RunError;
+use pdb_symbolizer_input::status_line::StatusLine;
 use std::io::{self, Read, Seek};
 use std::rt::Files;
 

@@ -7,14 +7,12 @@ ghost use Rattle.pdb_answer_printer.specs.InputLine.{question_of};
 ghost use Rattle.pdb_answer_printer.specs.SourceTexts.{FrameSource};
 ghost use Rattle.pdb_symbolizer_lib.specs.AnsweredRequests.{AnswersQuestion, AnswersText, AreFramesAt, AreNamedFrames};
 ghost use Rattle.pdb_symbolizer_lib.specs.AnsweredRequests.{HaveUrls, frame_url};
-ghost use Rattle.pdb_symbolizer_lib.specs.EarlyEnds.{out_of_memory};
-ghost use Rattle.pdb_symbolizer_lib.specs.ImageBases.{relative};
+ghost use Rattle.pdb_symbolizer_input.specs.EndReasons.{out_of_memory};
+ghost use Rattle.pdb_symbolizer_input.specs.ImageBases.{relative};
 ghost use Rattle.pdb_symbolizer_lib.specs.PublicNames.{public_named};
 
-use crate::options::Options;
 use crate::public_names::PublicNames;
 use crate::questions::Questions;
-use crate::run_errors::RunError;
 use crate::run_state::RunState;
 use pdb_addr2line::{Error, Frame, FunctionFrames};
 use pdb_answer_printer::{
@@ -22,6 +20,8 @@ use pdb_answer_printer::{
 };
 use pdb_session::{QuestionError, SessionContext};
 use pdb_source_urls::SourceUrls;
+use pdb_symbolizer_input::options::Options;
+use pdb_symbolizer_input::run_errors::RunError;
 use std::alloc::{AllocError, Global};
 use std::rt::Files;
 

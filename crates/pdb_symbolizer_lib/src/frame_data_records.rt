@@ -1,11 +1,11 @@
 //! The STACK WIN records of a symbol file and the sizes of parameters, from the frame data of a PDB file for x86.
 
-use crate::input_files::{SourceFile, open_error};
-use crate::run_errors::RunError;
 use pdb_container::Machine;
 use pdb_frame_data::{StackWinRecords, read_stack_win};
 use pdb_msf::faults::fault_text;
 use pdb_records::StreamError;
+use pdb_symbolizer_input::input_files::{SourceFile, open_error};
+use pdb_symbolizer_input::run_errors::RunError;
 use pdb_tables::Segments;
 use std::alloc::{AllocError, Global};
 use std::io::{Read, Seek};

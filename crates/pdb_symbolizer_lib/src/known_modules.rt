@@ -1,10 +1,10 @@
 //! Answers for modules from cached texts, if their file is open and a request asks for nothing new.
 
-use crate::file_stamps::FileStamp;
-use crate::folder_places::{LAYOUTS, id_text, place_by};
-use crate::kept_files::KeptFiles;
-use crate::options::Options;
 use pdb_symbolication::{FrameTexts, WantedModule};
+use pdb_symbolizer_input::file_stamps::FileStamp;
+use pdb_symbolizer_input::folder_places::{LAYOUTS, id_text, place_by};
+use pdb_symbolizer_input::kept_files::KeptFiles;
+use pdb_symbolizer_input::options::Options;
 use std::alloc::AllocError;
 use std::rt::Files;
 

@@ -6,44 +6,20 @@
 //! and output through its runtime.
 #![tactic(auto)]
 
-mod arguments;
 mod base_hints;
-mod command_line;
-mod environment;
 mod export_files;
 mod file_answers;
-mod file_bytes;
-mod file_cache;
-mod file_stamps;
-mod folder_listings;
-mod folder_places;
-mod foreign_files;
 mod frame_answers;
 mod frame_data_records;
-mod identities;
-mod image_bases;
-mod input_files;
-mod kept_files;
 mod known_modules;
-mod known_programs;
-mod known_texts;
 mod line_answers;
 mod line_queue;
 mod named_file_lines;
-mod opened_files;
-mod options;
 mod outputs;
-mod paths;
-mod programs;
 mod public_names;
 mod questions;
-mod record_sizes;
-mod repair_lines;
-mod response_files;
-mod run_errors;
 mod run_state;
 mod source_lines;
-mod status_line;
 mod symbol_files;
 mod symbol_stores;
 mod symbolication;
@@ -53,6 +29,6 @@ mod unopened_files;
 mod unwind_records;
 mod word_answers;
 
-pub use run_errors::RunError;
-pub use status_line::StatusLine;
+pub use pdb_symbolizer_input::run_errors::RunError;
+pub use pdb_symbolizer_input::status_line::StatusLine;
 pub use symbolizer_runs::run_words;

@@ -1,19 +1,21 @@
 //! Answers the lines of an input over one file.
 
 ghost use Rattle.std.specs.Prelude.{◌≡◌, ◌∷◌, [], true, string_bytes, IfErr};
-ghost use Rattle.pdb_symbolizer_lib.specs.AnsweredRequests.{AnswersText, AreFramesAt, AreFramesOver, flags_of};
-ghost use Rattle.pdb_symbolizer_lib.specs.EarlyEnds.{EndsAnswers, EndsLines, EndsWrite};
+ghost use Rattle.pdb_symbolizer_lib.specs.AnsweredRequests.{AnswersText, AreFramesAt, AreFramesOver};
+ghost use Rattle.pdb_symbolizer_input.specs.NameOptions.{flags_of};
+ghost use Rattle.pdb_symbolizer_input.specs.EndReasons.{EndsWrite};
+ghost use Rattle.pdb_symbolizer_lib.specs.EarlyEnds.{EndsAnswers, EndsLines};
 ghost use Rattle.pdb_symbolizer_lib.specs.FileRuns.{AnswersOfFile};
 ghost use Rattle.pdb_symbolizer_lib.specs.AnswersInOrder.{AnswersAllLines, AnswersInOrder, AnswersLines, lines_text};
 
 use crate::frame_answers::request_text;
 use crate::line_queue::LineQueue;
-use crate::opened_files::OpenedFile;
 use crate::outputs::{Output, write_line_answer};
 use crate::questions::Questions;
-use crate::run_errors::RunError;
 use crate::run_state::RunState;
 use pdb_session::SessionContext;
+use pdb_symbolizer_input::opened_files::OpenedFile;
+use pdb_symbolizer_input::run_errors::RunError;
 use std::alloc::{AllocError, Global};
 use std::io::{Read, Seek};
 use std::rt::Files;

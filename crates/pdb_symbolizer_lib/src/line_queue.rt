@@ -5,7 +5,7 @@ ghost use Rattle.std.specs.Io.Buffered.{reader_remaining};
 ghost use Rattle.pdb_symbolizer_lib.specs.EarlyEnds.{EndsInput};
 ghost use Rattle.pdb_symbolizer_lib.specs.InputLines.{BeginWith, GivesLine, asked_in_turn, asked_lines, text_of_line};
 
-use crate::run_errors::RunError;
+use pdb_symbolizer_input::run_errors::RunError;
 use std::alloc::{AllocError, Global};
 use std::io::{BufRead, BufReader, ErrorKind, Read};
 use std::marker::Model;

@@ -4,22 +4,22 @@
 //! file come between.
 
 use crate::frame_answers::print_lack;
-use crate::input_files::find_file_of_line;
-use crate::kept_files::{KeptFiles, UsedFile, open_used};
-use crate::known_programs::KnownPrograms;
 use crate::line_answers::{addresses_of_lines, answer_line};
 use crate::line_queue::LineQueue;
-use crate::opened_files::OpenedFile;
-use crate::options::Options;
 use crate::outputs::{ByteStream, Output, write_line_answer};
 use crate::public_names::PublicNames;
 use crate::questions::Questions;
-use crate::run_errors::RunError;
 use crate::run_state::RunState;
-use crate::status_line::StatusLine;
 use crate::unopened_files::answer_unopened;
 use pdb_answer_printer::{InputLine, parse_input_line, write_unknown};
 use pdb_session::SessionContext;
+use pdb_symbolizer_input::input_files::find_file_of_line;
+use pdb_symbolizer_input::kept_files::{KeptFiles, UsedFile, open_used};
+use pdb_symbolizer_input::known_programs::KnownPrograms;
+use pdb_symbolizer_input::opened_files::OpenedFile;
+use pdb_symbolizer_input::options::Options;
+use pdb_symbolizer_input::run_errors::RunError;
+use pdb_symbolizer_input::status_line::StatusLine;
 use std::io::{self, Read, Seek};
 use std::rt::Files;
 

@@ -3,11 +3,11 @@
 ghost use Rattle.std.specs.Prelude.{◌≡◌, ℕ, Bool, false, List, Option, IfErr, string_bytes};
 ghost use Rattle.pdb_symbolication.specs.Writes.{Writes};
 ghost use Rattle.pdb_symbolizer_lib.specs.AnswersInOrder.{line_text};
-ghost use Rattle.pdb_symbolizer_lib.specs.EarlyEnds.{EndsWrite};
+ghost use Rattle.pdb_symbolizer_input.specs.EndReasons.{EndsWrite};
 
-use crate::run_errors::RunError;
 use pdb_answer_printer::Style;
 use pdb_symbolication::write_whole;
+use pdb_symbolizer_input::run_errors::RunError;
 use std::io;
 
 /// Accepts the texts of answers.

@@ -8,10 +8,10 @@ ghost use Rattle.pdb_records.specs.declared.addresses.PdbInternalSectionOffset.{
 ghost use Rattle.pdb_symbolizer_lib.specs.PublicNames.{decorated, decorated_frame, function_name, known_name, name_in};
 ghost use Rattle.pdb_symbolizer_lib.specs.PublicNames.{public_name, public_name_in, sections_of, wanted_name};
 
-use crate::options::Options;
-use crate::repair_lines::text_of;
 use pdb_frames::{Frame, FunctionFrames};
 use pdb_records::{AddressMap, PDB, PdbInternalSectionOffset, RawString, Rva, Symbol, SymbolData};
+use pdb_symbolizer_input::options::Options;
+use pdb_symbolizer_input::repair_lines::text_of;
 use pdb_tables::insert_first;
 use std::alloc::{AllocError, Global};
 use std::collections::BTreeMap;

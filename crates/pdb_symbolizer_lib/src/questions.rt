@@ -3,15 +3,15 @@
 ghost use Rattle.std.specs.Prelude.{◌≡◌};
 ghost use Rattle.pdb_answer_printer.specs.InputLine.{question_of};
 ghost use Rattle.pdb_symbolizer_lib.specs.AnsweredRequests.{asked_address, asks_more, question_by};
-ghost use Rattle.pdb_symbolizer_lib.specs.ImageBases.{image_base_of};
+ghost use Rattle.pdb_symbolizer_input.specs.ImageBases.{image_base_of};
 
-use crate::image_bases::ImageBase;
-use crate::opened_files::OpenedFile;
-use crate::options::{FileNaming, Options};
 use crate::public_names::PublicNames;
 use pdb_answer_printer::{InputLine, InputTarget, Sort, parse_input_line};
 use pdb_session::SessionContext;
 use pdb_source_urls::SourceUrls;
+use pdb_symbolizer_input::image_bases::ImageBase;
+use pdb_symbolizer_input::opened_files::OpenedFile;
+use pdb_symbolizer_input::options::{FileNaming, Options};
 use std::io::{Read, Seek};
 
 /// What all requests over one file have in common.

@@ -1,7 +1,7 @@
 //! Numbered lines of source files around the lines of frames, as `llvm-symbolizer` prints them.
 
-use crate::file_bytes::read_regular_file;
 use pdb_records_files::ran_out_of_memory;
+use pdb_symbolizer_input::file_bytes::read_regular_file;
 use std::alloc::{AllocError, Global};
 use std::rt::Files;
 

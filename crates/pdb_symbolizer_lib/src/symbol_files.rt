@@ -1,18 +1,18 @@
 //! Writes the Breakpad symbol file of `--dump-syms`, to standard output or into a store.
 
 use crate::frame_data_records::{FrameRecords, frame_data_records};
-use crate::identities::identity_in;
-use crate::input_files::{SourceFile, find_file};
-use crate::opened_files::{OpenedFile, open_source};
-use crate::options::{Options, SymbolFilePlace};
-use crate::paths::last_part;
-use crate::run_errors::RunError;
-use crate::status_line::StatusLine;
 use crate::symbol_stores::{make_place, write_records, write_whole};
 use crate::unwind_records::unwind_records;
 use pdb_breakpad::{ModuleIdentity, ProgramIdentity, SymbolFileError};
 use pdb_container::PdbIdentity;
 use pdb_session::SessionData;
+use pdb_symbolizer_input::identities::identity_in;
+use pdb_symbolizer_input::input_files::{SourceFile, find_file};
+use pdb_symbolizer_input::opened_files::{OpenedFile, open_source};
+use pdb_symbolizer_input::options::{Options, SymbolFilePlace};
+use pdb_symbolizer_input::paths::last_part;
+use pdb_symbolizer_input::run_errors::RunError;
+use pdb_symbolizer_input::status_line::StatusLine;
 use std::alloc::Global;
 use std::io::{self, Read, Seek};
 use std::rt::Files;

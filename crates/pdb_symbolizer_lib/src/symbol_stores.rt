@@ -1,9 +1,9 @@
 //! Writes symbol files into a symbol store, a folder where they are named by PDB file and debug id.
 
 use crate::frame_data_records::FrameRecords;
-use crate::paths::file_name;
-use crate::run_errors::RunError;
 use pdb_breakpad::{FrameSource, ModuleIdentity, SymbolFileError, write_symbol_file};
+use pdb_symbolizer_input::paths::file_name;
+use pdb_symbolizer_input::run_errors::RunError;
 use std::alloc::{AllocError, Global};
 use std::fs;
 use std::io::{BufWriter, Write};

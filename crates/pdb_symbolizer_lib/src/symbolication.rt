@@ -1,16 +1,16 @@
 //! Answers requests of the symbolication API on standard input: the whole input is one request, or each line is.
 
-use crate::kept_files::KeptFiles;
-use crate::options::{Options, RequestForm};
 use crate::outputs::{ByteStream, Output};
-use crate::run_errors::RunError;
-use crate::status_line::StatusLine;
 use crate::symbolized_modules::texts_of_modules;
 use pdb_addr2line::Error;
 use pdb_records_files::ran_out_of_memory;
 use pdb_symbolication::{
     RecordFault, SymbolicationRequest, WantedModules, error_line, write_answer,
 };
+use pdb_symbolizer_input::kept_files::KeptFiles;
+use pdb_symbolizer_input::options::{Options, RequestForm};
+use pdb_symbolizer_input::run_errors::RunError;
+use pdb_symbolizer_input::status_line::StatusLine;
 use std::io::{self, BufRead, BufReader, BufWriter, Read};
 use std::rt::Files;
 use std::time::Clock;

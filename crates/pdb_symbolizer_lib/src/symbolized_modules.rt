@@ -1,15 +1,15 @@
 //! Finds the PDB files of the modules in a request, and the texts at the offsets of each.
 
-use crate::folder_listings::FolderListings;
-use crate::kept_files::{KeptFiles, UsedFile, open_used};
 use crate::known_modules::known_texts;
-use crate::known_texts::{KnownTexts, NewText};
-use crate::options::Options;
-use crate::programs::find_in_folders;
-use crate::run_errors::RunError;
 use pdb_addr2line::{Error, Frame, FunctionFrames};
 use pdb_session::{SessionContext, SessionData};
 use pdb_symbolication::{FrameText, FrameTexts, SymbolizedFrame, SymbolizedFunction, WantedModule};
+use pdb_symbolizer_input::folder_listings::FolderListings;
+use pdb_symbolizer_input::kept_files::{KeptFiles, UsedFile, open_used};
+use pdb_symbolizer_input::known_texts::{KnownTexts, NewText};
+use pdb_symbolizer_input::options::Options;
+use pdb_symbolizer_input::programs::find_in_folders;
+use pdb_symbolizer_input::run_errors::RunError;
 use std::alloc::{AllocError, Global};
 use std::io::{Read, Seek};
 use std::rt::Files;

@@ -1,20 +1,20 @@
 //! Runs `pdb_symbolizer` with the words of its command line.
 
 ghost use Rattle.std.specs.Prelude.{◌≡◌};
-ghost use Rattle.pdb_symbolizer_lib.specs.ExitStatuses.{exit_status};
+ghost use Rattle.pdb_symbolizer_input.specs.ExitStatuses.{exit_status};
 
-use crate::command_line::parse;
-use crate::environment::words_of_run;
 use crate::export_files::write_files;
 use crate::file_answers::answer_file;
-use crate::identities::print_identities;
-use crate::input_files::read_all_records;
 use crate::named_file_lines::answer_named_files;
-use crate::options::{Export, Options, Purpose};
-use crate::run_errors::RunError;
-use crate::status_line::StatusLine;
 use crate::symbol_files::dump_symbols;
 use crate::symbolication::symbolicate;
+use pdb_symbolizer_input::command_line::parse;
+use pdb_symbolizer_input::environment::words_of_run;
+use pdb_symbolizer_input::identities::print_identities;
+use pdb_symbolizer_input::input_files::read_all_records;
+use pdb_symbolizer_input::options::{Export, Options, Purpose};
+use pdb_symbolizer_input::run_errors::RunError;
+use pdb_symbolizer_input::status_line::StatusLine;
 use std::rt::{Env, Files};
 use std::time::Clock;
 

@@ -1,9 +1,9 @@
 //! Answers for files that can't be opened.
 
-use crate::options::Options;
 use crate::outputs::{Output, write_line_answer};
-use crate::run_errors::RunError;
 use pdb_answer_printer::{InputLine, InputTarget, Sort, Style, write_json_error, write_unknown};
+use pdb_symbolizer_input::options::Options;
+use pdb_symbolizer_input::run_errors::RunError;
 
 /// Ends a run whose file, named by an option, can't be opened: prints the error, in JSON as an object.
 pub fn end_unopened<R: Print + Eprint + AllocGlobal, W: Output>(

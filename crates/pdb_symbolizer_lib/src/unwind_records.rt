@@ -1,8 +1,8 @@
 //! The unwind records of a symbol file, from the unwind tables of a program for x64 or ARM64.
 
-use crate::file_bytes::FileBytes;
-use crate::input_files::open_named_file;
-use crate::run_errors::RunError;
+use pdb_symbolizer_input::file_bytes::FileBytes;
+use pdb_symbolizer_input::input_files::open_named_file;
+use pdb_symbolizer_input::run_errors::RunError;
 use pe_image::{Image, is_arm64, read_image};
 use std::alloc::AllocError;
 use std::fmt;

@@ -2,19 +2,21 @@
 
 ghost use Rattle.std.specs.Prelude.{◌≡◌, false, map, string_bytes, IfErr, IfOk};
 ghost use Rattle.std.specs.List.{filter_map};
-ghost use Rattle.pdb_symbolizer_lib.specs.AnsweredRequests.{AnswersText, AreFramesAt, asked_address, flags_of};
-ghost use Rattle.pdb_symbolizer_lib.specs.EarlyEnds.{EndsAnswers, EndsWrite};
+ghost use Rattle.pdb_symbolizer_lib.specs.AnsweredRequests.{AnswersText, AreFramesAt, asked_address};
+ghost use Rattle.pdb_symbolizer_input.specs.NameOptions.{flags_of};
+ghost use Rattle.pdb_symbolizer_input.specs.EndReasons.{EndsWrite};
+ghost use Rattle.pdb_symbolizer_lib.specs.EarlyEnds.{EndsAnswers};
 ghost use Rattle.pdb_symbolizer_lib.specs.FileRuns.{AnswersOfFile};
 ghost use Rattle.pdb_symbolizer_lib.specs.AnswersInOrder.{AnswersInOrder, list_end, list_start, separator, words_text};
 
 use crate::frame_answers::request_text;
-use crate::opened_files::OpenedFile;
 use crate::outputs::Output;
 use crate::questions::Questions;
-use crate::run_errors::RunError;
 use crate::run_state::RunState;
 use pdb_answer_printer::Style;
 use pdb_session::SessionContext;
+use pdb_symbolizer_input::opened_files::OpenedFile;
+use pdb_symbolizer_input::run_errors::RunError;
 use std::alloc::{AllocError, Global};
 use std::io::{Read, Seek};
 use std::rt::Files;

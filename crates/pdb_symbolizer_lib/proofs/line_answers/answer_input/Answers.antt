@@ -2,7 +2,7 @@
 use Rattle.std.proofs.Common.{◌≡◌, ◌∙◌, [], refl, false}
 use Rattle.std.specs.Prelude.{Option, Some, None, IfNone, IfSome, is_some}
 use Rattle.pdb_session.specs.Session.{SameFile, SessionFile}
-use Rattle.pdb_symbolizer_lib.specs.AnsweredRequests.{flags_of}
+use Rattle.pdb_symbolizer_input.specs.NameOptions.{flags_of}
 use Rattle.pdb_symbolizer_lib.specs.FileRuns.{AnswersOfFile}
 use Rattle.pdb_symbolizer_lib.proofs.FileAnswerLemmas.{first_lines_better, lines_end, lines_more, lines_stop}
 use Rattle.pdb_symbolizer_lib.proofs.FileAnswerLemmas.{lines_stop_amid, same_file_text, stops_early, taken_lines_better}

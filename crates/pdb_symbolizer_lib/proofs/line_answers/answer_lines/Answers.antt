@@ -1,7 +1,8 @@
 -- The lines that a context over what was read answers are answered over the file.
 use Rattle.std.proofs.Common.{◌∙◌, subst, sym}
 use Rattle.pdb_session.specs.FileParts.{IsPartOfFile}
-use Rattle.pdb_symbolizer_lib.specs.AnsweredRequests.{AnswersText, AreFramesOver, flags_of}
+use Rattle.pdb_symbolizer_lib.specs.AnsweredRequests.{AnswersText, AreFramesOver}
+use Rattle.pdb_symbolizer_input.specs.NameOptions.{flags_of}
 use Rattle.pdb_symbolizer_lib.specs.FileRuns.{AnswersOfFile}
 use Rattle.pdb_symbolizer_lib.proofs.AnsweredTextLemmas.{text_of_file}
 use Rattle.pdb_symbolizer_lib.proofs.FileAnswerLemmas.{lines_better, none_of_lines}

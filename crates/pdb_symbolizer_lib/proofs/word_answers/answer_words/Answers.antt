@@ -3,7 +3,8 @@ use Rattle.std.proofs.Common.{◌≡◌, ◌∙◌, ap, map, subst, sym, true}
 use Rattle.std.specs.List.{filter_map}
 use Rattle.pdb_session.specs.FileParts.{IsPartOfFile}
 use Rattle.pdb_session.specs.Session.{needs_none}
-use Rattle.pdb_symbolizer_lib.specs.AnsweredRequests.{AnswersText, AreFramesAt, asked_address, flags_of}
+use Rattle.pdb_symbolizer_lib.specs.AnsweredRequests.{AnswersText, AreFramesAt, asked_address}
+use Rattle.pdb_symbolizer_input.specs.NameOptions.{flags_of}
 use Rattle.pdb_symbolizer_lib.specs.AnswersInOrder.{AnswersInOrder, words_text}
 use Rattle.pdb_symbolizer_lib.specs.FileRuns.{AnswersOfFile}
 use Rattle.pdb_symbolizer_lib.proofs.AnsweredTextLemmas.{part_of_same}

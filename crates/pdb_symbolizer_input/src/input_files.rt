@@ -1,6 +1,6 @@
 //! Opens the file that the user names, and reads all records of a PDB file or of a records file with its module files.
 
-ghost use Rattle.pdb_symbolizer_lib.specs.EarlyEnds.{EndsRead};
+ghost use Rattle.pdb_symbolizer_input.specs.EndReasons.{EndsRead};
 
 use crate::file_bytes::{FileBytes, open_bytes};
 use crate::file_stamps::FileStamp;

@@ -1,8 +1,8 @@
 //! `Options`: the parsed command line, with styles, names, bases of addresses and files to write.
 
 ghost use Rattle.std.specs.Prelude.{◌≡◌};
-ghost use Rattle.pdb_symbolizer_lib.specs.AnsweredRequests.{flags_of};
-ghost use Rattle.pdb_symbolizer_lib.specs.PublicNames.{shows_decorated_names};
+ghost use Rattle.pdb_symbolizer_input.specs.NameOptions.{flags_of};
+ghost use Rattle.pdb_symbolizer_input.specs.NameOptions.{shows_decorated_names};
 
 use crate::identities::ExpectedBuild;
 use bitflags::Flags;

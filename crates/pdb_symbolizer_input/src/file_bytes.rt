@@ -19,7 +19,7 @@ pub enum FileBytes<F> {
 }
 
 impl<F: Read + Seek + Drop> Source for FileBytes<F> {
-    ghost use Rattle.pdb_symbolizer_lib.specs.FileContents.{known_bytes};
+    ghost use Rattle.pdb_symbolizer_input.specs.FileContents.{known_bytes};
 
     ghost bytes = { known_bytes };
 

@@ -2,7 +2,7 @@
 
 ghost use Rattle.std.specs.Prelude.{◌≡◌, string_bytes, IfErr, IfOk};
 ghost use Rattle.pdb_records.specs.Names.{lossy};
-ghost use Rattle.pdb_symbolizer_lib.specs.EarlyEnds.{out_of_memory};
+ghost use Rattle.pdb_symbolizer_input.specs.EndReasons.{out_of_memory};
 
 use crate::run_errors::RunError;
 use pdb_addr2line::pdb::{Module, PDB, RawString, StreamError};

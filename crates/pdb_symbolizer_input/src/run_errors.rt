@@ -1,8 +1,8 @@
 //! `RunError`: why a run ended early, its message, and its exit status.
 
 ghost use Rattle.std.specs.Prelude.{◌≡◌, if◌then◌else◌};
-ghost use Rattle.pdb_symbolizer_lib.specs.EarlyEnds.{out_of_memory};
-ghost use Rattle.pdb_symbolizer_lib.specs.ExitStatuses.{asks_for_help, status_of};
+ghost use Rattle.pdb_symbolizer_input.specs.EndReasons.{out_of_memory};
+ghost use Rattle.pdb_symbolizer_input.specs.ExitStatuses.{asks_for_help, status_of};
 
 use crate::arguments::EXAMPLES;
 use crate::foreign_files::ForeignFile;
@@ -202,7 +202,7 @@ impl From<clap::Error> for RunError {
 
 impl From<Error> for RunError {
     ghost use Rattle.std.specs.Prelude.{◌≡◌};
-    ghost use Rattle.pdb_symbolizer_lib.specs.declared.run_errors.RunError.TheVariants.{Refused};
+    ghost use Rattle.pdb_symbolizer_input.specs.declared.run_errors.RunError.TheVariants.{Refused};
 
     ghost from_gives = { λ error run. run ≡ Refused error };
 
@@ -230,7 +230,7 @@ impl From<QuestionError> for RunError {
 
 impl From<io::Error> for RunError {
     ghost use Rattle.std.specs.Prelude.{false};
-    ghost use Rattle.pdb_symbolizer_lib.specs.EarlyEnds.{EndsWrite};
+    ghost use Rattle.pdb_symbolizer_input.specs.EndReasons.{EndsWrite};
 
     ghost from_gives = { λ _ run. EndsWrite false run };
 
@@ -245,7 +245,7 @@ impl From<io::Error> for RunError {
 
 impl From<AllocError> for RunError {
     ghost use Rattle.std.specs.Prelude.{◌≡◌};
-    ghost use Rattle.pdb_symbolizer_lib.specs.EarlyEnds.{out_of_memory};
+    ghost use Rattle.pdb_symbolizer_input.specs.EndReasons.{out_of_memory};
 
     ghost from_gives = { λ _ run. run ≡ out_of_memory };
 
@@ -256,7 +256,7 @@ impl From<AllocError> for RunError {
 
 impl<T: Drop> From<AllocFailed<T>> for RunError {
     ghost use Rattle.std.specs.Prelude.{◌≡◌};
-    ghost use Rattle.pdb_symbolizer_lib.specs.EarlyEnds.{out_of_memory};
+    ghost use Rattle.pdb_symbolizer_input.specs.EndReasons.{out_of_memory};
 
     ghost from_gives = { λ _ run. run ≡ out_of_memory };
 

@@ -2,7 +2,7 @@
 
 ghost use Rattle.std.specs.Prelude.{◌≡◌, true, string_bytes, IfErr, IsOk, OnOk};
 ghost use Rattle.pdb_session.specs.Session.{SameFile, needs_none};
-ghost use Rattle.pdb_symbolizer_lib.specs.EarlyEnds.{EndsRead};
+ghost use Rattle.pdb_symbolizer_input.specs.EndReasons.{EndsRead};
 
 use crate::file_bytes::FileBytes;
 use crate::input_files::{

@@ -1,7 +1,7 @@
 //! `ImageBase`: turns given addresses into addresses relative to where the program is loaded.
 
 ghost use Rattle.std.specs.Prelude.{◌≡◌};
-ghost use Rattle.pdb_symbolizer_lib.specs.ImageBases.{loaded_at, relative};
+ghost use Rattle.pdb_symbolizer_input.specs.ImageBases.{loaded_at, relative};
 
 use crate::options::Base;
 

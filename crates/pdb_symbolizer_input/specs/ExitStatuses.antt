@@ -3,8 +3,8 @@ use Rattle.std.specs.Prelude.{ℕ, Bool, true, false, if◌then◌else◌, Resul
 use Rattle.clap.specs.declared.error.kind.ErrorKind.{ErrorKind}
 use Rattle.clap.specs.declared.error.kind.ErrorKind.TheVariants as kind
 use Rattle.clap.specs.Values.{kind_of}
-use Rattle.pdb_symbolizer_lib.specs.declared.run_errors.RunError.{RunError}
-use Rattle.pdb_symbolizer_lib.specs.declared.run_errors.RunError.TheVariants as run
+use Rattle.pdb_symbolizer_input.specs.declared.run_errors.RunError.{RunError}
+use Rattle.pdb_symbolizer_input.specs.declared.run_errors.RunError.TheVariants as run
 
 -- whether the command line asks for the help or the version
 abbrev pub asks_for_help : ErrorKind → Bool

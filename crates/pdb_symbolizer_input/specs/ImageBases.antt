@@ -1,9 +1,9 @@
 -- What is subtracted from addresses, to make them relative to where a program is loaded.
 use Rattle.std.specs.Prelude.{ℕ, ◌+◌, ◌-◌, ◌%◌, ◌^◌, Option, Some, None, unwrap_or, nat_lt, if◌then◌else◌}
-use Rattle.pdb_symbolizer_lib.specs.declared.image_bases.ImageBase.{ImageBase}
-use Rattle.pdb_symbolizer_lib.specs.declared.options.Base.{Base}
-use Rattle.pdb_symbolizer_lib.specs.declared.options.Base.TheVariants.{Preferred, Relative, At}
-use Rattle.pdb_symbolizer_lib.specs.declared.options.Options.{Options}
+use Rattle.pdb_symbolizer_input.specs.declared.image_bases.ImageBase.{ImageBase}
+use Rattle.pdb_symbolizer_input.specs.declared.options.Base.{Base}
+use Rattle.pdb_symbolizer_input.specs.declared.options.Base.TheVariants.{Preferred, Relative, At}
+use Rattle.pdb_symbolizer_input.specs.declared.options.Options.{Options}
 
 -- where a program is loaded; `preferred` is its image base, if it is known
 abbrev pub loaded_at : Base → Option ℕ → Option ℕ

@@ -1,0 +1,5 @@
+pub mod EndReasons
+pub mod ExitStatuses
+pub mod FileContents
+pub mod ImageBases
+pub mod NameOptions
