@@ -20,7 +20,7 @@ use Rattle.pdb_container.specs.UnnamedCode.{code_of_module, named, named_modules
 use Rattle.pdb_file_laws.specs.ModulesAlone.{HasNamedCode, IsSaidAlone}
 
 -- a list that was set at a place is as it was at the others
-set_elsewhere : {A : Type 0} (items : List A) (i j : ℕ) (item : A) → i ≢ j
+pub set_elsewhere : {A : Type 0} (items : List A) (i j : ℕ) (item : A) → i ≢ j
     → slice_get (slice_set items i item) j ≡ slice_get items j
 set_elsewhere [] i j item other = refl
 set_elsewhere (x ∷ items) zero zero item other = absurd (other refl)

@@ -1,6 +1,7 @@
 -- What was read stays a part of the file's records.
 use Rattle.std.proofs.Common.{◌≡◌, ◌∙◌, ℕ, Bool, true, false, List, All, map}
 use Rattle.std.proofs.Common.{Option, Some, None, Result, Ok, Err, length, refl, sym, ap, subst}
+use Rattle.std.specs.Prelude.{replicate}
 use Rattle.std.specs.Result.{result_unwrap_or}
 use Rattle.pdb_records.specs.Readings.{Read}
 use Rattle.pdb_records.specs.Records.{Records}
@@ -31,7 +32,7 @@ use Rattle.pdb_file_laws.specs.SameFronts.{SameFronts}
 use Rattle.pdb_repairs.specs.Repaired.{repaired, repaired_items, repaired_read, repaired_symbols}
 use Rattle.pdb_known.proofs.AllReadLemmas.{part_of_itself}
 use Rattle.pdb_known.specs.Known.{AreAlike, AreDefinedAlike, IsPartOf, Known, all_read}
-use Rattle.pdb_session.proofs.ReadLemmas.{modules_alone}
+use Rattle.pdb_session.proofs.ReadLemmas.{count_of_modules, modules_alone}
 use Rattle.pdb_session.specs.FileParts.{AreAllOf, AreAt, AreIdsOf, AreModulesOf, AreTypesOf, BeginsAs, HasItems}
 use Rattle.pdb_session.specs.FileParts.{HasNames, IsLeft, IsModuleOf, IsOpened, IsPartOfFile, IsReadFrom, IsReaderOf}
 use Rattle.pdb_session.specs.FileParts.{ItemsOrFault, ReadsFile, all_or}
@@ -199,6 +200,14 @@ same_count known None (Some read) = refl
 same_count known (Some read) None = refl
 same_count known (Some read) (Some other) = refl
 
+-- it also leaves the marks of modules
+pub same_marks : (known : Known) (types : Option TypesRead) (ids : Option IdsRead)
+    → (with_ids (with_types known types) ids).modules ≡ known.modules
+same_marks known None None = refl
+same_marks known None (Some read) = refl
+same_marks known (Some read) None = refl
+same_marks known (Some read) (Some other) = refl
+
 -- records whose parts are equal
 same_records : (a b : Records) → a.sections ≡ b.sections → a.address_map ≡ b.address_map
     → a.global_symbols ≡ b.global_symbols → a.debug_information ≡ b.debug_information
@@ -229,6 +238,29 @@ same_records a b sections map_is symbols debug types ids strings modules =
     ∙ ap (λ x. record b { string_table = x; module_infos = a.module_infos }) strings
     ∙ ap (λ x. record b { module_infos = x }) modules
 
+-- the modules at the places of a file, with the names of their code, are those of its records
+pub modules_of_file : (file : List ℕ) (mapped : MappedFile) (places : List PlaceOrFault) (lists : TypeLists)
+    (known : Known) → length file ≡ mapped.file_length → IsReaderOf file mapped places lists known
+    → named_modules mapped.file_length (tabled known.records.global_symbols)
+    (map (module_of (with_bytes file mapped)) places)
+    ≡ module_infos (with_bytes file mapped)
+unfolding module_infos modules_read
+modules_of_file file mapped places lists known long reader =
+    let msf : Msf = with_bytes file mapped in
+    ap (λ room. named_modules room (tabled known.records.global_symbols) (map (module_of msf) places)) (sym long)
+    ∙ ap (λ symbols. named_modules (length file) (tabled symbols) (map (module_of msf) places))
+    reader.part.global_symbols
+    ∙ ap (λ ps. named_modules (length file) (tabled (repaired_symbols (table_of (global_symbols msf))))
+    (map (module_of msf) ps)) reader.places
+    ∙ same_names (length file) (global_symbols msf) (map (module_of msf) (module_places msf (streams_of_modules msf)))
+
+-- a file has as many modules as places for them
+pub count_of_file : (file : List ℕ) (mapped : MappedFile) (places : List PlaceOrFault) (lists : TypeLists)
+    (known : Known) → IsReaderOf file mapped places lists known
+    → length places ≡ length (module_infos (with_bytes file mapped))
+count_of_file file mapped places lists known reader =
+    ap length reader.places ∙ sym (count_of_modules (with_bytes file mapped))
+
 -- records with everything that was read are those of the file, repaired
 all_of_file : (file : List ℕ) (mapped : MappedFile) (places : List PlaceOrFault) (lists : TypeLists) (known : Known)
     (types_read : Option (ItemInformation TypeIndex TypeData)) (ids_read : Option (ItemInformation IdIndex IdData))
@@ -238,7 +270,6 @@ all_of_file : (file : List ℕ) (mapped : MappedFile) (places : List PlaceOrFaul
     → modules ≡ map repaired_read (named_modules mapped.file_length (tabled known.records.global_symbols)
     (map (module_of (with_bytes file mapped)) places))
     → with_all known.records types_read ids_read modules ≡ repaired (records (with_bytes file mapped))
-unfolding module_infos modules_read
 all_of_file file mapped places lists known types_read ids_read modules long reader all_types all_ids are =
     let msf : Msf = with_bytes file mapped in
     same_records (with_all known.records types_read ids_read modules) (repaired (records msf))
@@ -248,15 +279,7 @@ all_of_file file mapped places lists known types_read ids_read modules long read
     (all_read_of ids file lists.ids.places known.records.id_information (repaired_items (id_information msf)) ids_read reader.ids
     all_ids)
     reader.part.string_table
-    (are
-    ∙ ap (λ room. map repaired_read (named_modules room (tabled known.records.global_symbols)
-    (map (module_of msf) places))) (sym long)
-    ∙ ap (λ symbols. map repaired_read (named_modules (length file) (tabled symbols)
-    (map (module_of msf) places))) reader.part.global_symbols
-    ∙ ap (λ ps. map repaired_read (named_modules (length file)
-    (tabled (repaired_symbols (table_of (global_symbols msf)))) (map (module_of msf) ps))) reader.places
-    ∙ ap (map repaired_read) (same_names (length file) (global_symbols msf)
-    (map (module_of msf) (module_places msf (streams_of_modules msf)))))
+    (are ∙ ap (map repaired_read) (modules_of_file file mapped places lists known long reader))
 
 -- once everything was read, what is known is all of the file
 pub all_is_part : (file : List ℕ) (mapped : MappedFile) (places : List PlaceOrFault) (lists emptied : TypeLists)
@@ -315,7 +338,7 @@ part_with_read file mapped places lists known new types_read ids_read reads some
     subst (IsReaderOf file mapped places lists) (sym is)
     (part_with_modules file mapped places lists (with_ids (with_types known types_read) ids_read) new.modules
     new.records.module_infos (same_count known types_read ids_read ∙ some) with_items
-    (put whole (modules_alone msf places reader.places reads from names) with_items.part.modules))
+    (put whole (modules_alone file mapped places reader.places reads from names) with_items.part.modules))
 
 -- what was read of an excerpt with the front of a file is what the file has in its front
 pub file_opened : (file : List ℕ) (mapped : MappedFile) (excerpt : Msf)
@@ -324,10 +347,10 @@ pub file_opened : (file : List ℕ) (mapped : MappedFile) (excerpt : Msf)
     → HasItems types file types_at (type_information (with_bytes file mapped))
     → HasItems ids file ids_at (id_information (with_bytes file mapped))
     → places ≡ places_within excerpt mapped.file_length (streams_of_modules excerpt) → HasFront excerpt read
-    → length read.module_infos ≡ length places → read.type_information ≡ first_information types types_at
+    → read.module_infos ≡ replicate (length places) (Ok None) → read.type_information ≡ first_information types types_at
     → read.id_information ≡ first_information ids ids_at → lists.types.places ≡ result_unwrap_or types_at None
     → lists.ids.places ≡ result_unwrap_or ids_at None → IsOpened file mapped places lists read
-file_opened file mapped excerpt types_at ids_at places lists read long is same types_are ids_are places_are front count
+file_opened file mapped excerpt types_at ids_at places lists read long is same types_are ids_are places_are front unread
     first_types first_ids at_types at_ids =
     let msf : Msf = with_bytes file mapped in
     record {
@@ -336,7 +359,7 @@ file_opened file mapped excerpt types_at ids_at places lists read long is same t
           ∙ places_same excerpt msf same mapped.file_length (streams_of_modules excerpt)
           ∙ ap (λ streams. places_within msf mapped.file_length streams) (streams_same excerpt msf same)
           ∙ ap (λ left. places_within msf left (streams_of_modules msf)) (sym long);
-      count = count;
+      unread = unread;
       front = front_same excerpt msf read same front;
       types = subst (λ at. BeginsAs types file at read.type_information (type_information msf)) (sym at_types)
           (subst (λ first. BeginsAs types file (result_unwrap_or types_at None) first (type_information msf))

@@ -1,6 +1,6 @@
 -- What is known of a file at first, before any module, type or id was read, is a part of its records.
 use Rattle.std.proofs.Common.{◌≡◌, ◌∙◌, ℕ, zero, suc, ◌+◌, ◌<◌, ◌≤◌, ◌⊎◌, inl, inr, Bool, true, false, List, [], ◌∷◌}
-use Rattle.std.proofs.Common.{◌++◌, map, append-nil, Option, Some, None, Ok, length, refl, sym, ap, subst, arith}
+use Rattle.std.proofs.Common.{◌++◌, ◌-◌, map, take, append-nil, Option, Some, None, Ok, length, refl, sym, ap, subst, arith}
 use Rattle.std.proofs.lemmas.List.{get_or-replicate, length-map, length-replicate}
 use Rattle.std.proofs.lemmas.Option.{slice_get_past, slice_get-get_or}
 use Rattle.std.specs.Prelude.{replicate, slice_get, unwrap_or}
@@ -16,10 +16,13 @@ use Rattle.pdb_tpi.specs.TypeRecords.{TypeBytes}
 use Rattle.pdb_tpi.specs.TypeLeaves.{types}
 use Rattle.pdb_tpi.specs.declared.type_places.TypePlaces.{TypePlaces}
 use Rattle.pdb_container.specs.DebugRecords.{module_infos, sections}
-use Rattle.pdb_container.specs.ModulePlaces.{PlaceOrFault}
+use Rattle.pdb_container.specs.ModulePlaces.{ModuleOrFault, PlaceOrFault}
 use Rattle.pdb_container.specs.TypeRecords.{id_information, type_information}
 use Rattle.pdb_repairs.specs.Repaired.{repaired, repaired_debug_information, repaired_items, repaired_read}
-use Rattle.pdb_repairs.specs.Repaired.{repaired_symbols}
+use Rattle.pdb_repairs.specs.Repaired.{repaired_symbols, repairs_from, repairs_of, repairs_of_debug_information}
+use Rattle.pdb_repairs.specs.Repaired.{repairs_of_front, repairs_of_symbols, told, unread_fault}
+use Rattle.pdb_repairs.specs.declared.repairs.Repair.TheVariants.{NoIds, NoTypes}
+use Rattle.pdb_container.specs.PdbFile.{records}
 use Rattle.pdb_known.proofs.AllReadLemmas.{alike_itself, defined_itself}
 use Rattle.pdb_known.specs.Known.{AreAlike, AreDefinedAlike}
 use Rattle.pdb_session.proofs.MarkedLemmas.{alike_where_marked, defined_where_marked}
@@ -47,7 +50,7 @@ no_mark count position set = by_place (within_or_behind position count) where
       cc
 
 -- a mark that is set where none is lies after them
-set_behind : (count position : ℕ) → unwrap_or (slice_get (replicate count false) position) true ≡ true
+pub set_behind : (count position : ℕ) → unwrap_or (slice_get (replicate count false) position) true ≡ true
     → count ≤ position
 set_behind count position set = by_place (within_or_behind position count) where
   by_place : (position < count) ⊎ (count ≤ position) → count ≤ position
@@ -187,7 +190,13 @@ opened_is_part file mapped places lists read opened =
         modules = λ position marked.
             let behind : (length places ≤ position) = set_behind (length places) position marked in
             nothing_behind (map repaired_read read.module_infos) position
-            (omega (arith, behind, length-map read.module_infos repaired_read, opened.count))
+            (omega (
+              arith,
+              behind,
+              length-map read.module_infos repaired_read,
+              ap length opened.unread,
+              length-replicate {A = ModuleOrFault} (length places) (Ok None),
+            ))
             ∙ sym (nothing_behind (map repaired_read (module_infos msf)) position
             (omega (
               arith,
@@ -204,6 +213,57 @@ opened_is_part file mapped places lists read opened =
             (repaired_items (id_information msf)) of_ids;
       };
     }
+
+-- nothing is broken in modules that weren't read
+no_repairs_from : (position count : ℕ) → repairs_from position (replicate count (Ok None)) ≡ []
+no_repairs_from position zero = refl
+no_repairs_from position (suc count) = no_repairs_from (position + 1) count
+
+-- what was read at first of types or ids has the fault that they have
+fault_begins : {I D : Type 0} (meaning : ItemMeaning I D) (file : List ℕ) (places : Option TypePlaces)
+    (part whole : ItemsOrFault I D) → BeginsAs meaning file places part whole → unread_fault part ≡ unread_fault whole
+fault_begins meaning file None part whole begins = ap unread_fault begins
+fault_begins meaning file (Some places) part whole begins =
+    ap unread_fault begins.0 ∙ sym (ap unread_fault begins.1.items)
+
+-- the repairs of what was read at first are those of the file's records other than its modules
+pub opened_repairs : (file : List ℕ) (mapped : MappedFile) (places : List PlaceOrFault) (lists : TypeLists)
+    (read : Records) → IsOpened file mapped places lists read
+    → repairs_of read ≡ repairs_of_front (records (with_bytes file mapped))
+opened_repairs file mapped places lists read opened =
+    let msf : Msf = with_bytes file mapped in
+    ap (λ modules. repairs_of_front read ++ repairs_from 0 modules) opened.unread
+    ∙ ap (λ more. repairs_of_front read ++ more) (no_repairs_from 0 (length places))
+    ∙ append-nil (repairs_of_front read)
+    ∙ ap (λ symbols. repairs_of_front (record read { global_symbols = symbols })) opened.front.2
+    ∙ ap (λ fault. repairs_of_symbols (records msf).global_symbols ++ told NoTypes fault
+    ++ told NoIds (unread_fault read.id_information)
+    ++ repairs_of_debug_information read.sections read.debug_information)
+    (fault_begins types file lists.types.places read.type_information (type_information msf) opened.types)
+    ∙ ap (λ fault. repairs_of_symbols (records msf).global_symbols
+    ++ told NoTypes (unread_fault (type_information msf)) ++ told NoIds fault
+    ++ repairs_of_debug_information read.sections read.debug_information)
+    (fault_begins ids file lists.ids.places read.id_information (id_information msf) opened.ids)
+    ∙ ap (λ headers. repairs_of_front (record (records msf) {
+      sections = headers;
+      debug_information = read.debug_information;
+    })) opened.front.0
+    ∙ ap (λ debug. repairs_of_front (record (records msf) { debug_information = debug })) opened.front.3
+
+-- an empty list has no first elements
+take_none : (count : ℕ) → take {A = Bool} count [] ≡ []
+take_none zero = refl
+take_none (suc count) = refl
+
+-- an empty list of marks that was made so long has that many marks that aren't set
+pub resized : (items old : List Bool) (old_length asked count : ℕ)
+    → items ≡ take asked old ++ replicate (asked - old_length) false → old ≡ [] → old_length ≡ 0 → asked ≡ count
+    → items ≡ replicate count false
+resized items old old_length asked count is none short same =
+    let whole : asked - old_length ≡ count = omega (arith, short, same) in
+    is ∙ ap (λ old. take asked old ++ replicate (asked - old_length) false) none
+    ∙ ap (λ first. first ++ replicate (asked - old_length) false) (take_none asked)
+    ∙ ap (λ left. replicate left false) whole
 
 -- the same of the file that a source says
 pub opened_reads_file : (bytes : Option (List ℕ)) (mapped : MappedFile) (places : List PlaceOrFault)

@@ -11,3 +11,6 @@ pub mod MarkedLemmas
 pub mod OwnerLemmas
 pub mod PartLemmas
 pub mod ReadLemmas
+pub mod SessionLemmas
+pub mod ToldLemmas
+pub mod UntoldLemmas

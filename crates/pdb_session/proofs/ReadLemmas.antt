@@ -1,5 +1,5 @@
 -- Modules that are read by themselves are those of the file's records, where their code has names.
-use Rattle.std.proofs.Common.{◌≡◌, ◌≢◌, ◌∙◌, ℕ, zero, suc, ◌<◌, ◌≤◌, ◌⊎◌, inl, inr, Bool, true, List, [], ◌∷◌}
+use Rattle.std.proofs.Common.{◌≡◌, ◌∙◌, ℕ, ◌<◌, ◌≤◌, ◌⊎◌, inl, inr, Bool, true, List, [], ◌∷◌}
 use Rattle.std.proofs.Common.{All, map, set}
 use Rattle.std.proofs.lemmas.Bool.{cases_eq, cases_order}
 use Rattle.std.proofs.Common.{Option, Some, None, Ok, Err, length, length-set, refl, sym, ap, subst, arith}
@@ -8,6 +8,7 @@ use Rattle.std.proofs.lemmas.List.Elements.{All-cons, All-head, All-nil, All-tai
 use Rattle.std.proofs.lemmas.Option.{slice_get-get_or, slice_get-map, slice_get_past}
 use Rattle.std.specs.Prelude.{fold, option_map, slice_get, slice_set, unwrap_or}
 use Rattle.pdb_msf.specs.Msf.{Msf}
+use Rattle.pdb_msf.specs.MsfLayout.{MappedFile, with_bytes}
 use Rattle.pdb_dbi.specs.declared.module_substream.ModuleStream.{ModuleStream}
 use Rattle.pdb_container.proofs.ModuleLemmas.{count_of_places}
 use Rattle.pdb_container.specs.DebugRecords.{global_symbols, module_infos, streams_of_modules}
@@ -16,9 +17,9 @@ use Rattle.pdb_container.specs.ModulePlaces.{ModuleOrFault, PlaceOrFault, module
 use Rattle.pdb_container.specs.ModulePlaces.{modules_read, place_at}
 use Rattle.pdb_container.specs.UnnamedCode.{separated_from, code_from, code_in_module, named}
 use Rattle.pdb_container.specs.UnnamedCode.{named_module, named_modules, renamed_symbols}
-use Rattle.pdb_file_laws.proofs.ModuleLemmas.{said_alone}
-use Rattle.pdb_repairs.specs.Repaired.{repaired_read}
-use Rattle.pdb_session.specs.FileParts.{AreModulesOf, HasNames, IsModuleOf, module_in}
+use Rattle.pdb_file_laws.proofs.ModuleLemmas.{said_alone, set_elsewhere}
+use Rattle.pdb_repairs.specs.Repaired.{repaired_read, repairs_of_read}
+use Rattle.pdb_session.specs.FileParts.{AreModulesOf, HasNames, HasRepairsOf, IsModuleOf, IsReadFrom, module_in}
 use Rattle.pdb_session.specs.declared.module_reads.ModuleRead.{ModuleRead}
 
 -- a position lies within a list or after it
@@ -78,12 +79,26 @@ pub nothing_behind : (modules : List ModuleOrFault) (position : ℕ) → length 
 nothing_behind modules position past =
     ap (λ (found : Option ModuleOrFault). unwrap_or found (Ok None)) (slice_get_past modules position past)
 
--- a module that was read by itself and repaired is that of the repaired records, where all its code has a name
-module_alone : (msf : Msf) (read : ModuleRead)
+-- repairing a list of modules repairs the module at each position
+module_repaired : (modules : List ModuleOrFault) (position : ℕ)
+    → module_in (map repaired_read modules) position ≡ repaired_read (module_in modules position)
+module_repaired modules position =
+    ap (λ (found : Option ModuleOrFault). unwrap_or found (Ok None)) (slice_get-map repaired_read modules position)
+    ∙ by_found (slice_get modules position)
+  where
+    by_found : (found : Option ModuleOrFault)
+        → unwrap_or (option_map repaired_read found) (Ok None) ≡ repaired_read (unwrap_or found (Ok None))
+    by_found None = refl
+    by_found (Some read) = refl
+
+-- a module that is read by itself is that of the records, where all its code has a name
+unrepaired_alone : (msf : Msf) (read : ModuleRead)
     → read.info ≡ repaired_read (module_of msf (place_at (module_places msf (streams_of_modules msf)) read.position))
-    → HasNames read → module_in (map repaired_read (module_infos msf)) read.position ≡ read.info
+    → HasNames read
+    → module_in (module_infos msf) read.position
+    ≡ module_of msf (place_at (module_places msf (streams_of_modules msf)) read.position)
 unfolding module_at
-module_alone msf read is named_code =
+unrepaired_alone msf read is named_code =
     by_place (within_or_behind read.position (length streams))
   where
     streams : List ModuleStream
@@ -99,46 +114,53 @@ module_alone msf read is named_code =
     none_apart = ap (λ symbols. separated_from 0 None symbols) (sym (ap symbols_of is ∙ same_symbols alone)) ∙ named_code
 
     by_place : (read.position < length streams) ⊎ (length streams ≤ read.position)
-        → module_in (map repaired_read (module_infos msf)) read.position ≡ read.info
+        → module_in (module_infos msf) read.position ≡ alone
     by_place (inl within) =
         ap (λ (found : Option ModuleOrFault). unwrap_or found (Ok None))
-        (slice_get-map repaired_read (module_infos msf) read.position
-        ∙ ap (option_map repaired_read) (said_alone msf read.position within
-        (ap (map (code_in_module read.position (symbols_of alone))) none_apart)))
-        ∙ sym is
+        (said_alone msf read.position within (ap (map (code_in_module read.position (symbols_of alone))) none_apart))
     by_place (inr past) =
-        nothing_behind (map repaired_read (module_infos msf)) read.position
-        (omega (
-          arith,
-          past,
-          length-map (module_infos msf) repaired_read,
-          count_of_modules msf,
-          count_of_places msf streams,
-        ))
-        ∙ sym (is ∙ ap (λ (found : Option PlaceOrFault). repaired_read (module_of msf (unwrap_or found (Ok None))))
+        nothing_behind (module_infos msf) read.position
+        (omega (arith, past, count_of_modules msf, count_of_places msf streams))
+        ∙ sym (ap (λ (found : Option PlaceOrFault). module_of msf (unwrap_or found (Ok None)))
         (slice_get_past places read.position (omega (arith, past, count_of_places msf streams))))
 
--- so are all modules that were read
-pub modules_alone : (msf : Msf) (places : List PlaceOrFault) → places ≡ module_places msf (streams_of_modules msf)
-    → (reads : List ModuleRead)
-    → All (λ (read : ModuleRead). read.info ≡ repaired_read (module_of msf (place_at places read.position))) reads
-    → All HasNames reads → All (IsModuleOf (map repaired_read (module_infos msf))) reads
-modules_alone msf places are reads read_from named_code =
-    all_by_both
-    (λ (read : ModuleRead). read.info ≡ repaired_read (module_of msf (place_at places read.position))) HasNames
-    (IsModuleOf (map repaired_read (module_infos msf)))
-    (λ read from names. module_alone msf read
-    (subst (λ (ps : List PlaceOrFault). read.info ≡ repaired_read (module_of msf (place_at ps read.position))) are from)
-    names) reads read_from named_code
+-- a module that was read by itself, repaired, is that of the repaired records
+module_alone : (file : List ℕ) (mapped : MappedFile) (read : ModuleRead)
+    → IsReadFrom file mapped (module_places (with_bytes file mapped) (streams_of_modules (with_bytes file mapped))) read
+    → HasNames read → IsModuleOf (map repaired_read (module_infos (with_bytes file mapped))) read
+module_alone file mapped read from names =
+    module_repaired (module_infos (with_bytes file mapped)) read.position
+    ∙ ap repaired_read (unrepaired_alone (with_bytes file mapped) read from.info names)
+    ∙ sym from.info
 
--- an element is as it was where another is set
-set_elsewhere : {A : Type 0} (items : List A) (i j : ℕ) (item : A) → i ≢ j
-    → slice_get (slice_set items i item) j ≡ slice_get items j
-set_elsewhere [] i j item other = refl
-set_elsewhere (x ∷ items) zero zero item other = absurd (other refl)
-set_elsewhere (x ∷ items) zero (suc j) item other = refl
-set_elsewhere (x ∷ items) (suc i) zero item other = refl
-set_elsewhere (x ∷ items) (suc i) (suc j) item other = set_elsewhere items i j item (λ same. other (ap suc same))
+-- and its repairs are those of the records
+repairs_alone : (file : List ℕ) (mapped : MappedFile) (read : ModuleRead)
+    → IsReadFrom file mapped (module_places (with_bytes file mapped) (streams_of_modules (with_bytes file mapped))) read
+    → HasNames read → HasRepairsOf (module_infos (with_bytes file mapped)) read
+repairs_alone file mapped read from names =
+    from.repairs
+    ∙ ap (repairs_of_read read.position) (sym (unrepaired_alone (with_bytes file mapped) read from.info names))
+
+-- so are all modules that were read
+pub modules_alone : (file : List ℕ) (mapped : MappedFile) (places : List PlaceOrFault)
+    → places ≡ module_places (with_bytes file mapped) (streams_of_modules (with_bytes file mapped))
+    → (reads : List ModuleRead) → All (IsReadFrom file mapped places) reads → All HasNames reads
+    → All (IsModuleOf (map repaired_read (module_infos (with_bytes file mapped)))) reads
+modules_alone file mapped places are reads read_from named_code =
+    all_by_both (IsReadFrom file mapped places) HasNames
+    (IsModuleOf (map repaired_read (module_infos (with_bytes file mapped))))
+    (λ read from names. module_alone file mapped read (subst (λ at. IsReadFrom file mapped at read) are from) names)
+    reads read_from named_code
+
+-- and all of their repairs
+pub all_repairs_alone : (file : List ℕ) (mapped : MappedFile) (places : List PlaceOrFault)
+    → places ≡ module_places (with_bytes file mapped) (streams_of_modules (with_bytes file mapped))
+    → (reads : List ModuleRead) → All (IsReadFrom file mapped places) reads → All HasNames reads
+    → All (HasRepairsOf (module_infos (with_bytes file mapped))) reads
+all_repairs_alone file mapped places are reads read_from named_code =
+    all_by_both (IsReadFrom file mapped places) HasNames (HasRepairsOf (module_infos (with_bytes file mapped)))
+    (λ read from names. repairs_alone file mapped read (subst (λ at. IsReadFrom file mapped at read) are from) names)
+    reads read_from named_code
 
 -- the module at a position is what was put there
 put_there : (modules : List ModuleOrFault) (position : ℕ) (info : ModuleOrFault) → position < length modules
@@ -164,3 +186,10 @@ put_one whole modules marks read is within are position marked = by_place (cases
       (set_elsewhere modules read.position position read.info differ)
       ∙ are position (ap (λ (found : Option Bool). unwrap_or found true)
       (sym (set_elsewhere marks read.position position true differ)) ∙ marked)
+
+-- what is known of modules is known of equal lists
+pub same_modules : (whole : List ModuleOrFault) (marks marks' : List Bool) (modules modules' : List ModuleOrFault)
+    → marks' ≡ marks → modules' ≡ modules → AreModulesOf whole marks modules → AreModulesOf whole marks' modules'
+same_modules whole marks marks' modules modules' same_marks same_infos are =
+    subst (λ m. AreModulesOf whole m modules') (sym same_marks)
+    (subst (λ m. AreModulesOf whole marks m) (sym same_infos) are)

@@ -26,7 +26,7 @@ use Rattle.pdb_container.specs.PdbFile.{records, records_of}
 use Rattle.pdb_container.specs.PdbFileError.{code_refusal, reason_of}
 use Rattle.pdb_container.specs.TypeRecords.{id_information, type_information}
 use Rattle.pdb_container.specs.UnnamedCode.{separated_from}
-use Rattle.pdb_repairs.specs.Repaired.{repaired, repaired_items, repaired_read}
+use Rattle.pdb_repairs.specs.Repaired.{repaired, repaired_items, repaired_read, repairs_of_read}
 use Rattle.pdb_known.specs.Known.{AreAlike, AreDefinedAlike, IsPartOf, Known, Span, all_read}
 use Rattle.pdb_session.specs.declared.items_read.IdsRead.{IdsRead}
 use Rattle.pdb_session.specs.declared.items_read.TypesRead.{TypesRead}
@@ -169,10 +169,12 @@ with_all records types ids modules = record records {
   module_infos = modules;
 }
 
--- a module was read from its own stream, and repaired
-abbrev pub IsReadFrom : List ℕ → MappedFile → List PlaceOrFault → ModuleRead → Type 0
-IsReadFrom file mapped places read =
-    read.info ≡ repaired_read (module_of (with_bytes file mapped) (place_at places read.position))
+-- a module was read from its own stream and repaired, and these are its repairs
+pub record IsReadFrom (file : List ℕ) (mapped : MappedFile) (places : List PlaceOrFault) (read : ModuleRead)
+    : Type 0 where
+  pub info : read.info ≡ repaired_read (module_of (with_bytes file mapped) (place_at places read.position))
+  pub repairs : read.repairs.items
+      ≡ repairs_of_read read.position (module_of (with_bytes file mapped) (place_at places read.position))
 
 -- all code of a module that was read has a name
 abbrev pub HasNames : ModuleRead → Type 0
@@ -186,6 +188,10 @@ module_in modules position = unwrap_or (slice_get modules position) (Ok None)
 abbrev pub IsModuleOf : List ModuleOrFault → ModuleRead → Type 0
 IsModuleOf whole read = module_in whole read.position ≡ read.info
 
+-- the repairs that were read with a module are those of the module at its position
+abbrev pub HasRepairsOf : List ModuleOrFault → ModuleRead → Type 0
+HasRepairsOf whole read = read.repairs.items ≡ repairs_of_read read.position (module_in whole read.position)
+
 -- both lists have the same records for each marked module
 abbrev pub AreModulesOf : List ModuleOrFault → List Bool → List ModuleOrFault → Type 0
 AreModulesOf whole marks modules = (position : ℕ) → unwrap_or (slice_get marks position) true ≡ true
@@ -197,7 +203,7 @@ pub record IsOpened (file : List ℕ) (mapped : MappedFile) (at : List PlaceOrFa
     (read : Records) : Type 0 where
   pub container : container file ≡ Ok (with_bytes file mapped)
   pub places : at ≡ module_places (with_bytes file mapped) (streams_of_modules (with_bytes file mapped))
-  pub count : length read.module_infos ≡ length at
+  pub unread : read.module_infos ≡ replicate (length at) (Ok None)
   pub front : HasFront (with_bytes file mapped) read
   pub types : BeginsAs types file lists.types.places read.type_information
       (type_information (with_bytes file mapped))

@@ -4,3 +4,4 @@ pub mod FileParts
 pub mod FrontStreams
 pub mod MarkedItems
 pub mod Session
+pub mod UntoldRepairs

@@ -16,16 +16,18 @@ use Rattle.pdb_addr2line.specs.ContextInputs.{ContextInputs, ContextState}
 use Rattle.pdb_addr2line.specs.FunctionIter.{start_addresses}
 use Rattle.pdb_addr2line.specs.Lookups.{code_failed_after, failed_after, failed_after_frames}
 use Rattle.pdb_addr2line.specs.NamedFunctions.{named_frames_answered, named_function_at}
+use Rattle.pdb_repairs.specs.declared.repairs.Repair.{Repair}
 use Rattle.pdb_known.specs.Known.{Known, Span, infos_of}
 use Rattle.pdb_known.specs.StrictlyClosed.{is_strictly_closed}
 use Rattle.pdb_session.specs.declared.session_context.QuestionError.{QuestionError}
 use Rattle.pdb_session.specs.declared.session_context.QuestionError.TheVariants as fault
 use Rattle.pdb_session.specs.CodeOwners.{lacks_owner, owners_of}
 
--- the model of a session: what it has read, the bytes of its file if the source has a model of them, and the length of
--- the file
+-- the model of a session: what it has read, the repairs that it keeps of each module to return them later, the bytes of
+-- its file if the source has a model of them, and the length of the file
 pub record SessionFile : Type 0 where
   pub known : Known
+  pub kept : List (List Repair)
   pub bytes : Option (List ℕ)
   pub file_length : ℕ
 

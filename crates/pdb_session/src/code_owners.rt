@@ -10,7 +10,6 @@ use pdb_functions::ContributionTable;
 use pdb_known::KnownRecords;
 use pdb_records::{AddressMap, ImageSectionHeader, PDB, Rva};
 use std::alloc::{AllocError, Global};
-use std::collections::BTreeSet;
 use std::marker::Model;
 
 /// Where sections are loaded, and which module each byte of their code came from.
@@ -51,21 +50,6 @@ impl CodeOwners {
             .contributions
             .contribution_over(section_offset, &mut Probes::new())?;
         Some(contribution.module_index)
-    }
-
-    /// The modules whose contributions contain these addresses.
-    pub fn owners_at(
-        &self,
-        alloc: Global,
-        addresses: &[u32],
-    ) -> Result<BTreeSet<usize>, AllocError> {
-        let mut modules = BTreeSet::new(alloc);
-        for &address in addresses {
-            if let Some(owner) = self.owner_at(address) {
-                modules.insert(owner)?;
-            }
-        }
-        Ok(modules)
     }
 
     /// Whether the module that owns the code at an address isn't read yet. `false` if no module owns it.

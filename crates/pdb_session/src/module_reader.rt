@@ -1,12 +1,15 @@
 //! Reads modules of a PDB file, with the types and ids that their functions name.
 
 ghost use Rattle.std.specs.Prelude.{◌≡◌, All, List, false, length, None, IfOk, OnErr, OnOk};
+ghost use Rattle.pdb_container.specs.DebugRecords.{module_infos};
 ghost use Rattle.pdb_container.specs.ModulePlaces.{ModuleOrFault};
 ghost use Rattle.pdb_container.specs.Front.{SameFront};
 ghost use Rattle.pdb_known.specs.Known.{all_read};
-ghost use Rattle.pdb_session.specs.FileParts.{AreModulesOf, IsModuleOf, IsWhole, OpensFile, ReadsFile};
+ghost use Rattle.pdb_msf.specs.MsfLayout.{IfFile, with_bytes};
+ghost use Rattle.pdb_session.specs.FileParts.{AreModulesOf, HasRepairsOf, IsModuleOf, IsWhole, OpensFile, ReadsFile};
 ghost use Rattle.pdb_session.specs.FileParts.{nothing_read, with_all, with_ids, with_modules, with_types};
 ghost use Rattle.pdb_session.specs.Session.{no_entries};
+ghost use Rattle.pdb_session.specs.UntoldRepairs.{LeaveUntold};
 
 use crate::front_records::{FileFront, FrontRecords, read_front_records};
 use crate::front_streams::FrontStreams;
@@ -91,7 +94,7 @@ impl<S: Source + Drop> FileReader<S> {
     }
 
     /// Reads the modules at these positions, and the types and ids that their functions name. Broken parts of these
-    /// modules are removed and returned.
+    /// modules are removed, and added to the repairs that are kept for each module.
     ///
     /// Chunks and jumps have no name of their own, and any module may list their function. If one of the modules has
     /// such code, everything that is left is read.
@@ -101,10 +104,17 @@ impl<S: Source + Drop> FileReader<S> {
         &mut self,
         alloc: Global,
         known: &mut KnownRecords,
+        kept: &mut Vec<Vec<Repair>>,
         positions: &[usize],
-    ) -> Result<Vec<Repair>, SourceError>
+    ) -> Result<(), SourceError>
         requires left { known.old.all ≡ false }
+        requires count { length kept.old.items ≡ length self.old.places.items }
         requires file { ReadsFile (S.bytes self.old.source) self.old.map self.old.places.items self.old.lists known.old }
+        ensures untold { IfFile (S.bytes self.old.source) self.old.map.file_length (λ file.
+            LeaveUntold (module_infos (with_bytes file self.old.map)) known.old.modules kept.old.items
+            known.new.modules kept.new.items) }
+        ensures count { length kept.new.items ≡ length self.old.places.items }
+        ensures places { self.new.places ≡ self.old.places }
         ensures file { ReadsFile (S.bytes self.new.source) self.new.map self.new.places.items self.new.lists known.new }
         ensures whole { IsWhole known.new }
         ensures front { SameFront known.old.records known.new.records }
@@ -112,11 +122,10 @@ impl<S: Source + Drop> FileReader<S> {
         ensures inputs { S.bytes self.new.source ≡ S.bytes self.old.source }
         ensures map { self.new.map ≡ self.old.map }
     {
-        let mut repairs = Vec::new(alloc);
         let (map, source) = (&self.map, &mut self.source);
-        let modules = read_modules_at(alloc, map, source, &self.places, positions, &mut repairs)?;
+        let modules = read_modules_at(alloc, map, source, &self.places, positions)?;
         if has_any_unnamed_code(alloc, &modules)? {
-            return self.read_all(alloc, known);
+            return self.read_all(alloc, known, kept);
         }
         self.reach
             .add_modules(alloc, &mut self.source, &self.lists, &modules)?;
@@ -124,21 +133,28 @@ impl<S: Source + Drop> FileReader<S> {
         let ids = read_ids(alloc, &mut self.source, &self.lists.ids, &self.reach)?;
         put_types(known, types);
         put_ids(known, ids);
-        put_read_modules(known, modules);
-        Ok(repairs)
+        put_read_modules(known, kept, modules);
+        Ok(())
     }
 
-    /// Reads everything that is left. Broken parts of the modules are removed. Those of modules that weren't read
-    /// before are returned.
+    /// Reads everything that is left. Broken parts of the modules are removed, and added to the repairs that are kept
+    /// for each module.
     ///
     /// If memory runs out or a range of the file can't be read, the call fails and marks nothing as read.
     pub fn read_all(
         &mut self,
         alloc: Global,
         known: &mut KnownRecords,
-    ) -> Result<Vec<Repair>, SourceError>
+        kept: &mut Vec<Vec<Repair>>,
+    ) -> Result<(), SourceError>
         requires left { known.old.all ≡ false }
+        requires count { length kept.old.items ≡ length self.old.places.items }
         requires file { ReadsFile (S.bytes self.old.source) self.old.map self.old.places.items self.old.lists known.old }
+        ensures untold { IfFile (S.bytes self.old.source) self.old.map.file_length (λ file.
+            LeaveUntold (module_infos (with_bytes file self.old.map)) known.old.modules kept.old.items
+            known.new.modules kept.new.items) }
+        ensures count { length kept.new.items ≡ length self.old.places.items }
+        ensures places { self.new.places ≡ self.old.places }
         ensures file { ReadsFile (S.bytes self.new.source) self.new.map self.new.places.items self.new.lists known.new }
         ensures all { OnOk result (known.new ≡ all_read known.new.records) }
         ensures whole { IsWhole known.new }
@@ -151,12 +167,13 @@ impl<S: Source + Drop> FileReader<S> {
         let ids = read_all_items(alloc, &mut self.source, &self.lists.ids)?;
         let mut modules = read_modules(alloc, &self.map, &mut self.source, &self.places)?;
         name_code(alloc, known, &mut modules, self.map.file_length())?;
-        let repairs = repair_modules(alloc, known, &mut modules)?;
+        let repairs = repair_modules(alloc, known, kept, &mut modules)?;
         put_all(alloc, known, types, ids, modules);
+        *kept = repairs;
         self.lists.types.places = None;
         self.lists.ids.places = None;
         self.reach = ReachableTypes::over_nothing(alloc);
-        Ok(repairs)
+        Ok(())
     }
 }
 
@@ -181,14 +198,22 @@ fn put_ids(known: &mut KnownRecords, ids: Option<IdsRead>)
     }
 }
 
-// Stores the modules that were read at their positions, and marks them as read.
-fn put_read_modules(known: &mut KnownRecords, read: Vec<ModuleRead>)
+// Stores the modules that were read and their repairs at their positions, and marks them as read.
+fn put_read_modules(known: &mut KnownRecords, kept: &mut Vec<Vec<Repair>>, read: Vec<ModuleRead>)
     ensures rest { known.new ≡ with_modules known.old known.new.modules known.new.records.module_infos }
     ensures same { (whole : List ModuleOrFault) → All (IsModuleOf whole) read.items
         → AreModulesOf whole known.old.modules known.old.records.module_infos
         → AreModulesOf whole known.new.modules known.new.records.module_infos }
+    ensures untold { (whole : List ModuleOrFault) → All (HasRepairsOf whole) read.items
+        → LeaveUntold whole known.old.modules kept.old.items known.new.modules kept.new.items }
+    ensures count { length kept.new.items ≡ length kept.old.items }
 {
-    put_modules(&mut known.records.module_infos, &mut known.modules, read);
+    put_modules(
+        &mut known.records.module_infos,
+        &mut known.modules,
+        kept,
+        read,
+    );
 }
 
 // Replaces everything by what was read, and marks all as read.

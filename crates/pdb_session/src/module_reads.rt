@@ -1,12 +1,13 @@
 //! Reads modules of a file from their own streams.
 
-ghost use Rattle.std.specs.Prelude.{◌≡◌, ◌≤◌, List, All, false, map, IfErr, IfOk, OnOk};
+ghost use Rattle.std.specs.Prelude.{◌≡◌, ◌≤◌, List, All, false, length, map, IfErr, IfOk, OnOk};
 ghost use Rattle.pdb_container.specs.DebugRecords.{tabled};
 ghost use Rattle.pdb_container.specs.ModulePlaces.{ModuleOrFault, module_of, place_at};
 ghost use Rattle.pdb_container.specs.UnnamedCode.{named_modules};
 ghost use Rattle.pdb_msf.specs.MsfLayout.{IfFile, with_bytes};
 ghost use Rattle.pdb_repairs.specs.Repaired.{repaired_read};
-ghost use Rattle.pdb_session.specs.FileParts.{AreModulesOf, HasNames, IsModuleOf, IsReadFrom};
+ghost use Rattle.pdb_session.specs.FileParts.{AreModulesOf, HasNames, HasRepairsOf, IsModuleOf, IsReadFrom};
+ghost use Rattle.pdb_session.specs.UntoldRepairs.{LeaveUntold, kept_at, untold_from};
 
 use pdb_container::parts::{
     ModuleInfoResult, ModulePlace, has_unnamed_code, module_in_stream, name_unnamed_code,
@@ -24,17 +25,17 @@ pub struct ModuleRead {
     pub position: usize,
     /// Its records after repairs, or why they can't be read.
     pub info: ModuleInfoResult,
+    /// The repairs of its broken parts.
+    pub repairs: Vec<Repair>,
 }
 
-/// Reads the modules at these positions, each from its own stream. Removes their broken parts, and adds these to
-/// `repairs`.
+/// Reads the modules at these positions, each from its own stream, and removes their broken parts.
 pub fn read_modules_at<S: Source>(
     alloc: Global,
     map: &MsfLayout,
     source: &mut S,
     places: &[ModulePlace],
     positions: &[usize],
-    repairs: &mut Vec<Repair>,
 ) -> Result<Vec<ModuleRead>, SourceError>
     ensures answer { IfOk result (λ read. IfFile (S.bytes source.old) map.now.file_length (λ file.
         All (IsReadFrom file map.now places.now) read.items)) }
@@ -42,7 +43,7 @@ pub fn read_modules_at<S: Source>(
 {
     let mut read = Vec::new(alloc);
     for &position in positions {
-        read.push(read_module_at(alloc, map, source, places, position, repairs)?)?;
+        read.push(read_module_at(alloc, map, source, places, position)?)?;
     }
     Ok(read)
 }
@@ -54,15 +55,19 @@ fn read_module_at<S: Source>(
     source: &mut S,
     places: &[ModulePlace],
     position: usize,
-    repairs: &mut Vec<Repair>,
 ) -> Result<ModuleRead, SourceError>
     ensures answer { IfOk result (λ read. IfFile (S.bytes source.old) map.now.file_length (λ file.
         IsReadFrom file map.now places.now read)) }
     ensures inputs { S.bytes source.new ≡ S.bytes source.old }
 {
     let mut info = read_module(alloc, map, source, place_at(places, position))?;
-    repair_module_info(alloc, position, &mut info, repairs)?;
-    Ok(ModuleRead { position, info })
+    let mut repairs = Vec::new(alloc);
+    repair_module_info(alloc, position, &mut info, &mut repairs)?;
+    Ok(ModuleRead {
+        position,
+        info,
+        repairs,
+    })
 }
 
 // Which stream has the records of the module at a position; none after the last module.
@@ -81,6 +86,7 @@ pub fn read_modules<S: Source>(
 ) -> Result<Vec<ModuleInfoResult>, SourceError>
     ensures answer { IfOk result (λ infos. IfFile (S.bytes source.old) streams.now.file_length (λ file.
         infos.items ≡ map (module_of (with_bytes file streams.now)) places.now)) }
+    ensures count { IfOk result (λ infos. length infos.items ≡ length places.now) }
     ensures inputs { S.bytes source.new ≡ S.bytes source.old }
 {
     let mut infos = Vec::new(alloc);
@@ -136,16 +142,50 @@ fn has_code_without_name(alloc: Global, read: &ModuleRead) -> Result<bool, Alloc
     }
 }
 
-/// Stores modules at their positions, and sets their marks.
-pub fn put_modules(modules: &mut [ModuleInfoResult], marks: &mut [bool], read: Vec<ModuleRead>)
-    ensures { (whole : List ModuleOrFault) → All (IsModuleOf whole) read.items → AreModulesOf whole marks.old modules.old
-        → AreModulesOf whole marks.new modules.new }
+/// Stores modules and their repairs at their positions, and sets their marks. A module that is marked stays as it is.
+pub fn put_modules(
+    modules: &mut [ModuleInfoResult],
+    marks: &mut [bool],
+    kept: &mut [Vec<Repair>],
+    read: Vec<ModuleRead>,
+)
+    ensures modules { (whole : List ModuleOrFault) → All (IsModuleOf whole) read.items
+        → AreModulesOf whole marks.old modules.old → AreModulesOf whole marks.new modules.new }
+    ensures untold { (whole : List ModuleOrFault) → All (HasRepairsOf whole) read.items
+        → LeaveUntold whole marks.old kept.old marks.new kept.new }
+    ensures count { length kept.new ≡ length kept.old }
 {
-    for ModuleRead { position, info } in read {
-        if position < modules.len() && position < marks.len() {
-            modules[position] = info;
-            marks[position] = true;
-        }
+    for one in read {
+        put_module(modules, marks, kept, one);
+    }
+}
+
+// Stores a module and its repairs at its position, and sets its mark.
+fn put_module(
+    modules: &mut [ModuleInfoResult],
+    marks: &mut [bool],
+    kept: &mut [Vec<Repair>],
+    read: ModuleRead,
+)
+    ensures modules { (whole : List ModuleOrFault) → IsModuleOf whole read
+        → AreModulesOf whole marks.old modules.old → AreModulesOf whole marks.new modules.new }
+    ensures untold { (whole : List ModuleOrFault) → HasRepairsOf whole read
+        → LeaveUntold whole marks.old kept.old marks.new kept.new }
+    ensures count { length kept.new ≡ length kept.old }
+{
+    let ModuleRead {
+        position,
+        info,
+        repairs,
+    } = read;
+    if position < modules.len()
+        && position < marks.len()
+        && position < kept.len()
+        && !marks[position]
+    {
+        modules[position] = info;
+        marks[position] = true;
+        kept[position] = repairs;
     }
 }
 
@@ -166,21 +206,40 @@ pub fn name_code(
     }
 }
 
-/// Removes the broken parts of modules. Returns those of modules that weren't read before.
+/// Removes the broken parts of modules. Returns the repairs of each module: those that are kept if it was read before,
+/// otherwise all.
 pub fn repair_modules(
     alloc: Global,
     known: &KnownRecords,
+    kept: &[Vec<Repair>],
     modules: &mut [ModuleInfoResult],
-) -> Result<Vec<Repair>, AllocError>
-    ensures { OnOk result (modules.new ≡ map repaired_read modules.old) }
+) -> Result<Vec<Vec<Repair>>, AllocError>
+    ensures state { OnOk result (modules.new ≡ map repaired_read modules.old) }
+    ensures repairs { IfOk result (λ repairs. map (λ told. told.items) repairs.items
+        ≡ untold_from known.now.modules kept.now 0 modules.old) }
 {
     let mut repairs = Vec::new(alloc);
     for (module_index, info) in modules.iter_mut().enumerate() {
         let mut told = Vec::new(alloc);
         repair_module_info(alloc, module_index, info, &mut told)?;
-        if !known.is_read(module_index) {
-            repairs.extend_from_slice(&told)?;
+        if known.is_read(module_index) {
+            told = repairs_at(alloc, kept, module_index)?;
         }
+        repairs.push(told)?;
     }
     Ok(repairs)
+}
+
+// A copy of the repairs that are kept for a module.
+fn repairs_at(
+    alloc: Global,
+    kept: &[Vec<Repair>],
+    position: usize,
+) -> Result<Vec<Repair>, AllocError>
+    ensures { IfOk result (λ repairs. repairs.items ≡ kept_at kept.now position) }
+{
+    match kept.get(position) {
+        Some(repairs) => Vec::from_slice(alloc, repairs),
+        None => Ok(Vec::new(alloc)),
+    }
 }

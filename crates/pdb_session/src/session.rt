@@ -1,6 +1,6 @@
 //! `PdbSession`: the records of a file that were read so far, and the reader of the rest.
 
-ghost use Rattle.std.specs.Prelude.{◌≡◌, IfOk, OnOk, true};
+ghost use Rattle.std.specs.Prelude.{◌≡◌, IfErr, IfOk, OnOk, true};
 ghost use Rattle.pdb_container.specs.Front.{SameFront};
 ghost use Rattle.pdb_repairs.specs.Repaired.{repaired, repairs_of};
 ghost use Rattle.pdb_errors.specs.Outcomes.{Refuses};
@@ -10,6 +10,8 @@ ghost use Rattle.pdb_known.specs.StrictlyClosed.{is_strictly_closed};
 ghost use Rattle.pdb_session.specs.CodeOwners.{lacks_owner, owners_of};
 ghost use Rattle.pdb_session.specs.FileParts.{IsPartOfFile, OpensFile, ReadsFile, RefusesFile, first_known};
 ghost use Rattle.pdb_session.specs.Session.{SameFile, needs, needs_none};
+ghost use Rattle.pdb_session.specs.UntoldRepairs.{IfModules, KeepsUntold, TellsAll, TellsAt, TellsFront};
+ghost use Rattle.pdb_session.specs.UntoldRepairs.{ToldNone};
 
 use crate::code_owners::CodeOwners;
 use crate::front_records::FileFront;
@@ -17,7 +19,7 @@ use crate::module_reader::{FileReader, no_entries};
 use crate::read_plan::ReadPlan;
 use crate::session_context::SessionData;
 use crate::session_error::SessionError;
-use crate::untold_repairs::UntoldRepairs;
+use crate::untold_repairs::{no_repairs, take_all, take_at};
 use pdb_addr2line::Error;
 use pdb_container::parts::code_refusal;
 use pdb_container::{Source, SourceError};
@@ -38,7 +40,8 @@ pub struct PdbSession<S: Source> {
     /// Reads the file; `None` if the records were complete from the start.
     reader: Option<FileReader<S>>,
     plan: ReadPlan,
-    untold: UntoldRepairs,
+    /// The repairs of each module that was read, until a call returns them.
+    kept: Vec<Vec<Repair>>,
 }
 
 impl<S: Source + Drop> Drop for PdbSession<S> {
@@ -50,14 +53,14 @@ impl<S: Source + Drop> Drop for PdbSession<S> {
             is_closed: _,
             reader: _,
             plan: _,
-            untold: _,
+            kept: _,
         } = self;
     }
 }
 
 // Contracts see a session as the records that were read, and the bytes of the file if its source says them.
 impl<S: Source> Model for PdbSession<S> {
-    ghost use Rattle.std.specs.Prelude.{◌≡◌, IfSome, None, true};
+    ghost use Rattle.std.specs.Prelude.{◌≡◌, IfSome, None, length, map, true};
     ghost use Rattle.std.specs.Option.{option_and_then, option_map_or};
     ghost use Rattle.pdb_known.specs.StrictlyClosed.{is_strictly_closed};
     ghost use Rattle.pdb_session.specs.CodeOwners.{owners_of};
@@ -68,6 +71,7 @@ impl<S: Source> Model for PdbSession<S> {
 
     ghost view = { λ s. record {
       known = s.known;
+      kept = map (λ repairs. repairs.items) s.kept.items;
       bytes = option_and_then (λ r. S.bytes r.source) s.reader;
       file_length = option_map_or (λ r. r.map.file_length) s.reader 0;
     } };
@@ -78,6 +82,7 @@ impl<S: Source> Model for PdbSession<S> {
       whole : IsWhole s.known;
       alone : s.reader ≡ None → s.known.all ≡ true;
       file : IfSome s.reader (λ r. ReadsFile (S.bytes r.source) r.map r.places.items r.lists s.known);
+      count : IfSome s.reader (λ r. length s.kept.items ≡ length r.places.items);
     } };
 }
 
@@ -102,6 +107,8 @@ impl<S: Source + Drop> PdbSession<S> {
     pub fn open(alloc: Global, source: S, file_length: usize) -> Result<Opened<S>, SessionError>
         ensures bytes { IfOk result (λ opened. opened.session.bytes ≡ S.bytes source) }
         ensures length { IfOk result (λ opened. opened.session.file_length ≡ file_length) }
+        ensures told { IfOk result (λ opened. TellsFront opened.session opened.repairs.items) }
+        ensures untold { IfOk result (λ opened. ToldNone opened.session) }
         ensures refused { RefusesFile result (S.bytes source) file_length }
     {
         let (reader, front) = FileReader::open(alloc, source, file_length)?;
@@ -119,7 +126,8 @@ impl<S: Source + Drop> PdbSession<S> {
         ensures length { IfOk result (λ opened. opened.session.file_length ≡ reader.map.file_length) }
         ensures records { IfOk result (λ opened. opened.session.known.records ≡ repaired front.records) }
         ensures names_only { IfOk result (λ opened. opened.names_only ≡ front.names_only) }
-        ensures repairs { IfOk result (λ opened. opened.repairs.items ≡ repairs_of front.records) }
+        ensures told { IfOk result (λ opened. TellsFront opened.session opened.repairs.items) }
+        ensures untold { IfOk result (λ opened. ToldNone opened.session) }
         ensures refused { RefusesFile result (S.bytes reader.source) reader.map.file_length }
     {
         let FileFront {
@@ -145,10 +153,12 @@ impl<S: Source + Drop> PdbSession<S> {
         ensures bytes { IfOk result (λ session. session.bytes ≡ S.bytes reader.source) }
         ensures length { IfOk result (λ session. session.file_length ≡ reader.map.file_length) }
         ensures records { IfOk result (λ session. session.known.records ≡ records) }
+        ensures untold { IfOk result (λ session. ToldNone session) }
     {
         let owners = CodeOwners::new(alloc, &records)?;
         let mut modules = Vec::new(alloc);
         modules.resize(reader.module_count(), false)?;
+        let kept = no_repairs(alloc, reader.module_count())?;
         let (types, sizes, ids) = reader.nothing_read(alloc)?;
         let known = KnownRecords {
             records,
@@ -165,7 +175,7 @@ impl<S: Source + Drop> PdbSession<S> {
             owners,
             reader: Some(reader),
             plan: ReadPlan::new(),
-            untold: UntoldRepairs::new(alloc),
+            kept,
         })
     }
 
@@ -191,7 +201,7 @@ impl<S: Source + Drop> PdbSession<S> {
             is_closed: true,
             reader: None,
             plan: ReadPlan::new(),
-            untold: UntoldRepairs::new(alloc),
+            kept: Vec::new(alloc),
         };
         Ok(Opened {
             session,
@@ -226,7 +236,7 @@ impl<S: Source + Drop> PdbSession<S> {
             is_closed: _,
             reader: _,
             plan: _,
-            untold: _,
+            kept: _,
         } = self;
         known
     }
@@ -234,8 +244,9 @@ impl<S: Source + Drop> PdbSession<S> {
     /// Reads what is missing for answers at these addresses, relative to where the program is loaded. Broken parts of
     /// the modules that are read are removed.
     ///
-    /// Returns the broken parts of the modules that own the code at these addresses. Each part is returned once. If
-    /// more modules were read, their broken parts are returned when an address in their code is asked for.
+    /// Returns the broken parts of the modules that own the code at these addresses, in the order of the addresses. Each
+    /// part is returned once. If more modules were read, their broken parts are returned when an address in their code
+    /// is asked for.
     ///
     /// # Errors
     ///
@@ -245,10 +256,13 @@ impl<S: Source + Drop> PdbSession<S> {
         ensures enough { OnOk result (needs_none self.new.known addresses.now ≡ true) }
         ensures front { SameFront self.old.known.records self.new.known.records }
         ensures file { SameFile self.old self.new }
+        ensures told { IfOk result (λ repairs.
+            IfModules self.old (TellsAt self.old self.new addresses.now repairs.items)) }
+        ensures untold { IfErr result (λ error. error ≡ SourceError.Unreadable → KeepsUntold self.old self.new) }
     {
         self.read_owners(addresses)?;
         self.read_rest_for(addresses)?;
-        Ok(self.untold.take_at(self.alloc, &self.owners, addresses)?)
+        Ok(take_at(self.alloc, &mut self.kept, &self.owners, addresses)?)
     }
 
     /// Reads everything that is left. Returns the broken parts of the modules that no call returned before.
@@ -260,9 +274,11 @@ impl<S: Source + Drop> PdbSession<S> {
         ensures all { OnOk result (self.new.known ≡ all_read self.new.known.records) }
         ensures front { SameFront self.old.known.records self.new.known.records }
         ensures file { SameFile self.old self.new }
+        ensures told { IfOk result (λ repairs. IfModules self.old (TellsAll self.old self.new repairs.items)) }
+        ensures untold { IfErr result (λ error. error ≡ SourceError.Unreadable → KeepsUntold self.old self.new) }
     {
         self.read_rest()?;
-        Ok(self.untold.take_all(self.alloc))
+        Ok(take_all(self.alloc, &mut self.kept)?)
     }
 
     // Reads everything that is left, unless the records that were read are enough for answers at these addresses.
@@ -270,6 +286,7 @@ impl<S: Source + Drop> PdbSession<S> {
         ensures enough { OnOk result (needs_none self.new.known addresses.now ≡ true) }
         ensures front { SameFront self.old.known.records self.new.known.records }
         ensures file { SameFile self.old self.new }
+        ensures untold { KeepsUntold self.old self.new }
     {
         if self.has_enough(addresses) {
             return Ok(());
@@ -283,6 +300,7 @@ impl<S: Source + Drop> PdbSession<S> {
         ensures all { OnOk result (self.new.known ≡ all_read self.new.known.records) }
         ensures front { SameFront self.old.known.records self.new.known.records }
         ensures file { SameFile self.old self.new }
+        ensures untold { KeepsUntold self.old self.new }
     {
         let known = &self.known;
         let has_all = known.all;
@@ -292,9 +310,9 @@ impl<S: Source + Drop> PdbSession<S> {
         let Some(reader) = &mut self.reader else {
             return Ok(());
         };
-        let read = reader.read_all(self.alloc, &mut self.known);
+        let read = reader.read_all(self.alloc, &mut self.known, &mut self.kept);
         self.is_closed = is_closed(&self.known);
-        Ok(self.untold.add(&read?)?)
+        read
     }
 
     /// Lends the records that were read so far to contexts. They are a part of the file's repaired records.
@@ -314,6 +332,7 @@ impl<S: Source + Drop> PdbSession<S> {
     fn read_owners(&mut self, addresses: &[u32]) -> Result<(), SourceError>
         ensures front { SameFront self.old.known.records self.new.known.records }
         ensures file { SameFile self.old self.new }
+        ensures untold { KeepsUntold self.old self.new }
     {
         let wanted = self.lacking_owners(addresses)?;
         let known = &self.known;
@@ -331,9 +350,10 @@ impl<S: Source + Drop> PdbSession<S> {
         {
             return self.read_rest();
         }
-        let read = reader.read_modules(self.alloc, &mut self.known, &wanted);
+        let (known, kept) = (&mut self.known, &mut self.kept);
+        let read = reader.read_modules(self.alloc, known, kept, &wanted);
         self.is_closed = is_closed(&self.known);
-        Ok(self.untold.add(&read?)?)
+        read
     }
 
     // The unread modules that own the code at these addresses, in ascending order, each once.

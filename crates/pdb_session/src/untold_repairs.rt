@@ -1,73 +1,70 @@
-//! `UntoldRepairs`: repairs of modules, kept until an address in the module's code is first asked for.
+//! Repairs of modules, kept until an address in the module's code is first asked for.
+
+ghost use Rattle.std.specs.Prelude.{◌≡◌, ◌++◌, ℕ, [], IfOk, OnOk, Some, length};
+ghost use Rattle.pdb_session.specs.UntoldRepairs.{kept_at, left_at, left_of, told_at, told_before};
 
 use crate::code_owners::CodeOwners;
 use pdb_repairs::Repair;
 use std::alloc::{AllocError, Global};
-use std::collections::BTreeSet;
 
-/// The repairs of modules that no caller has received yet, module by module.
-#[derive(Drop)]
-pub struct UntoldRepairs {
-    repairs: Vec<Repair>,
+/// Makes an empty list of repairs for each of this many modules.
+pub fn no_repairs(alloc: Global, count: usize) -> Result<Vec<Vec<Repair>>, AllocError>
+    ensures { IfOk result (λ kept. length kept.items ≡ count) }
+{
+    let mut kept = Vec::new(alloc);
+    for _ in 0..count {
+        kept.push(Vec::new(alloc))?;
+    }
+    Ok(kept)
 }
 
-impl UntoldRepairs {
-    /// No repairs.
-    pub fn new(alloc: Global) -> Self {
-        UntoldRepairs {
-            repairs: Vec::new(alloc),
+/// Removes and returns the repairs of the modules that own the code at these addresses, in the order of the addresses.
+pub fn take_at(
+    alloc: Global,
+    kept: &mut [Vec<Repair>],
+    owners: &CodeOwners,
+    addresses: &[u32],
+) -> Result<Vec<Repair>, AllocError>
+    ensures told { IfOk result (λ told. told.items ≡ told_at owners.now (kept_at kept.old) addresses.now) }
+    ensures left { OnOk result ((position : ℕ)
+        → kept_at kept.new position ≡ left_at owners.now (kept_at kept.old) addresses.now position) }
+{
+    let mut told = Vec::new(alloc);
+    for &address in addresses {
+        if let Some(owner) = owners.owner_at(address) {
+            take_of(alloc, kept, owner, &mut told)?;
         }
     }
-
-    /// Adds the repairs of other modules.
-    pub fn add(&mut self, repairs: &[Repair]) -> Result<(), AllocError> {
-        self.repairs.extend_from_slice(repairs)
-    }
-
-    /// Removes and returns the repairs of the modules that own the code at these addresses.
-    pub fn take_at(
-        &mut self,
-        alloc: Global,
-        owners: &CodeOwners,
-        addresses: &[u32],
-    ) -> Result<Vec<Repair>, AllocError> {
-        let mut told = Vec::new(alloc);
-        if self.repairs.is_empty() {
-            return Ok(told);
-        }
-        let modules = owners.owners_at(alloc, addresses)?;
-        let mut left = Vec::new(alloc);
-        for &repair in &self.repairs {
-            if is_of_one(&modules, repair) {
-                told.push(repair)?;
-            } else {
-                left.push(repair)?;
-            }
-        }
-        self.repairs = left;
-        Ok(told)
-    }
-
-    /// Removes and returns all repairs.
-    pub fn take_all(&mut self, alloc: Global) -> Vec<Repair> {
-        std::mem::replace(&mut self.repairs, Vec::new(alloc))
-    }
+    Ok(told)
 }
 
-// Whether a repair belongs to one of these modules.
-fn is_of_one(modules: &BTreeSet<usize>, repair: Repair) -> bool {
-    match repair {
-        Repair::GlobalSymbols(_)
-        | Repair::NoGlobalSymbols(_)
-        | Repair::NoTypes(_)
-        | Repair::NoIds(_)
-        | Repair::Modules(_)
-        | Repair::Contributions(_) => false,
-        Repair::ModuleContributions { module_index }
-        | Repair::Module { module_index, .. }
-        | Repair::Symbols { module_index, .. }
-        | Repair::Lines { module_index, .. }
-        | Repair::Inlinees { module_index, .. }
-        | Repair::InlineRows { module_index, .. } => modules.contains(&module_index),
+/// Removes and returns the repairs of all modules, module by module.
+pub fn take_all(alloc: Global, kept: &mut [Vec<Repair>]) -> Result<Vec<Repair>, AllocError>
+    ensures told { IfOk result (λ told. told.items ≡ told_before (kept_at kept.old) (length kept.old)) }
+    ensures left { OnOk result ((position : ℕ) → kept_at kept.new position ≡ []) }
+{
+    let mut told = Vec::new(alloc);
+    for position in 0..kept.len() {
+        take_of(alloc, kept, position, &mut told)?;
     }
+    Ok(told)
+}
+
+// Moves the repairs of a module to the end of a list.
+fn take_of(
+    alloc: Global,
+    kept: &mut [Vec<Repair>],
+    position: usize,
+    told: &mut Vec<Repair>,
+) -> Result<(), AllocError>
+    ensures told { OnOk result (told.new.items ≡ told.old.items ++ kept_at kept.old position) }
+    ensures left { OnOk result ((other : ℕ)
+        → kept_at kept.new other ≡ left_of (kept_at kept.old) (Some position) other) }
+    ensures count { length kept.new ≡ length kept.old }
+{
+    if position < kept.len() {
+        told.extend_from_slice(&kept[position])?;
+        kept[position] = Vec::new(alloc);
+    }
+    Ok(())
 }

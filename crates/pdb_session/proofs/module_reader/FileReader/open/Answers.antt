@@ -16,6 +16,6 @@ returns-clause-file g c = if_file _ _ _ (λ file is long.
     (of_known _ file _ _ mapped_from long c.in_ok-streams.ensures.front)
     (of_known _ file _ _ mapped_from long c.in_ok-streams.ensures.types)
     (of_known _ file _ _ mapped_from long c.in_ok-streams.ensures.ids)
-    (rw c.in_ok-map.ensures.length c.in_ok-front.ensures.places) c.in_ok-front.ensures.front c.in_ok-front.ensures.modules
+    (rw c.in_ok-map.ensures.length c.in_ok-front.ensures.places) c.in_ok-front.ensures.front c.in_ok-front.ensures.unread
     c.in_ok-front.ensures.types c.in_ok-front.ensures.ids c.in_ok-front.ensures.type_places
     c.in_ok-front.ensures.id_places)
