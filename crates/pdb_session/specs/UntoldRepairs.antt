@@ -28,7 +28,7 @@ abbrev pub untold_in : List ModuleOrFault → List Bool → List (Vec Repair) �
 untold_in modules marks kept position =
     if unwrap_or (slice_get marks position) true then kept_at kept position else module_repairs modules position
 
--- what weren't returned yet of modules from this position on, module by module
+-- the repairs that weren't returned yet of each of these modules; the first module has this position
 abbrev pub untold_from : List Bool → List (Vec Repair) → ℕ → List ModuleOrFault → List (List Repair)
 untold_from marks kept position [] = []
 untold_from marks kept position (read ∷ reads) =
@@ -76,8 +76,8 @@ abbrev pub untold_of : List ModuleOrFault → SessionFile → ℕ → List Repai
 untold_of modules session position =
     if is_read session.known position then repairs_at session.kept position else module_repairs modules position
 
--- a condition on the records of a session's file, before repairs. It holds if the source has a model of the file's bytes,
--- these have the right length, and they are a PDB file
+-- a condition on the records of a session's file, before repairs, if the source has a model of the file's bytes, these
+-- have the right length, and they are a PDB file
 abbrev pub IfRecords : SessionFile → (Records → Type 0) → Type 0
 IfRecords session Holds = IfFile session.bytes session.file_length (λ file. (whole : Records)
     → records_of file ≡ Ok whole → Holds whole)

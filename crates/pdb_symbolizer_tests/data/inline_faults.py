@@ -51,8 +51,8 @@ def write_inline_faults():
 
 
 def inline_fault_cases(error, ended):
-    """Yields cases. Rows before a fault are answered. Each module that a lookup reads has one line, with its first
-    fault and the number of its sites that have one."""
+    """Yields cases. Rows before a fault are answered. Each module whose code is looked up has one line, with its
+    first fault and the number of its sites that have one. The lines are in the order of the addresses."""
     write_inline_faults()
     first = error("inline_faults.pdb: module a.obj: rows of 2 inline sites end early: "
                   "code of an inlined body in a separated chunk")
@@ -67,6 +67,6 @@ def inline_fault_cases(error, ended):
         first + "f() at a.cpp:10:0\n\n" + 4 * inlined("f") + "f() at a.cpp:10:0\n\n" + ended
     yield "pdb_symbolizer -p inline_faults.pdb 0x1304", inlined("h") + ended
     yield "pdb_symbolizer -p inline_faults.pdb 0x1204 0x1304 0x1101", \
-        first + second + inlined("g") + inlined("h") + inlined("f") + ended
+        second + first + inlined("g") + inlined("h") + inlined("f") + ended
     yield "pdb_symbolizer -p inline_faults.pdb < 0x1304|0x1204|0x1206|0x1204", \
         second + inlined("h") + inlined("g") + "g() at a.cpp:10:0\n\n" + inlined("g") + ended
