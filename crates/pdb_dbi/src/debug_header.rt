@@ -1,4 +1,4 @@
-//! Reads the header of the debug information stream (DBI), and finds its substreams.
+//! Reads the header of the debug information stream (DBI): its machine, its streams, and where its substreams are.
 
 ghost use Rattle.std.specs.Prelude.{◌≡◌, ◌≤◌, ◌<◌, ◌^◌, length};
 ghost use Rattle.pdb_dbi.specs.DebugHeader.{contributions_place, header, header_fields, machine_type, optional_place};

@@ -1,4 +1,4 @@
-//! `PartSet`: the parts of the records that were found broken, and the error for each that failed before.
+//! `PartSet`: a set of broken parts of one kind, and the error for each that failed before.
 
 ghost use Rattle.std.specs.Prelude.{◌≡◌, [], IfOk, OnOk, OnErr};
 ghost use Rattle.pdb_errors.specs.PartSet.{has_part, add_part, add_met, error_of_part};

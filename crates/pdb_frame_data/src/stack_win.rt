@@ -1,4 +1,4 @@
-//! Makes the STACK WIN records of a program for x86, from its PDB file's frame data and FPO data.
+//! Makes the STACK WIN records of a program for x86 and the sizes of parameters, from its frame data and FPO data.
 
 ghost use Rattle.std.specs.Prelude.{◌≡◌, ◌≤◌, take, IfErr, IfOk, OnOk};
 ghost use Rattle.std.specs.List.{list_all};

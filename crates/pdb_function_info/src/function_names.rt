@@ -1,4 +1,4 @@
-//! `FunctionNames`: prints and caches the names of functions and of inlined bodies.
+//! `FunctionNames`: a formatter with two caches, of signatures and of names of ids, that are printed once each.
 
 ghost use Rattle.std.specs.Prelude.{◌≡◌, Some, option_map, string_bytes, OnOk, OnErr, MatchResult};
 ghost use Rattle.pdb_records.specs.Names.{lossy};

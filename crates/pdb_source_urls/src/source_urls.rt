@@ -1,4 +1,4 @@
-//! Where the source files of a program can be fetched, as its PDB file says it.
+//! `SourceUrls`: the URL of a source file by its name, from Source Link entries or else from source server data.
 
 ghost use Rattle.std.specs.Prelude.{◌≡◌, ◌≤◌, ℕ, List, None, IfErr, IfOk, option_map, string_bytes};
 ghost use Rattle.pdb_container.specs.DebugRecords.{of_file};

@@ -1,4 +1,4 @@
-//! Writes the answer to a request: for each job its stacks, and which of its modules were found.
+//! Writes the answer to a request: for each job its stacks with their frames, and which of its modules were found.
 
 ghost use Rattle.std.specs.Prelude.{◌≡◌, ◌==◌, ◌++◌, map, slice_get, string_bytes, OnOk, IfOk};
 ghost use Rattle.pdb_symbolication.specs.Findings.{search_of};

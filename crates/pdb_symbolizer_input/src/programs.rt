@@ -1,4 +1,4 @@
-//! Finds the PDB file of a program or of a module: at the path that the program names, beside it and in folders.
+//! Finds the PDB file with a debug id: at the path that the program names, beside the program, and in folders.
 
 use crate::file_bytes::{FileBytes, open_regular_bytes};
 use crate::folder_listings::FolderListings;

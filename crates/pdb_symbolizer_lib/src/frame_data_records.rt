@@ -1,4 +1,4 @@
-//! The STACK WIN records of a symbol file and the sizes of parameters, from the frame data of a PDB file for x86.
+//! Reads a PDB file for x86, and has `pdb_frame_data` make its STACK WIN records and the sizes of parameters.
 
 use pdb_container::Machine;
 use pdb_frame_data::{StackWinRecords, read_stack_win};

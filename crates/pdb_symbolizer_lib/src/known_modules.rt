@@ -1,4 +1,4 @@
-//! Answers for modules from cached texts, if their file is open and a request asks for nothing new.
+//! Answers for modules from cached texts alone, if their file is open and each offset has one.
 
 use pdb_symbolication::{FrameTexts, WantedModule};
 use pdb_symbolizer_input::file_stamps::FileStamp;

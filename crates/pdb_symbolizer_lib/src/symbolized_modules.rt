@@ -1,4 +1,4 @@
-//! Finds the PDB files of the modules in a request, and the texts at the offsets of each.
+//! Answers for the modules of a request: opens their PDB files, and prints texts at offsets without a cached one.
 
 use crate::known_modules::known_texts;
 use pdb_addr2line::{Error, Frame, FunctionFrames};

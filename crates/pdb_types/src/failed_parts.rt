@@ -1,4 +1,4 @@
-//! `FailedParts`: the parts of modules' records that were found broken, and the error for each one that failed before.
+//! `FailedParts`: the imports and exports of modules that were found broken, and the error for each.
 
 ghost use Rattle.pdb_types.specs.FailedParts.{unsuccessful_part};
 

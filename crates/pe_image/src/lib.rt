@@ -1,4 +1,4 @@
-//! Reads the headers of a program (an EXE or a DLL, PE32 or PE32+), the bytes at its addresses, and its directories.
+//! A program file (an EXE or a DLL, PE32 or PE32+): its headers, the bytes at its addresses, and its directories.
 //!
 //! The result of each call is defined over the bytes of the file, in specs/Headers.antt, specs/Image.antt and one file
 //! for each directory. Each call is proved to return it for all bytes.
