@@ -1,3 +1,4 @@
 pub mod WalkLemmas
 pub mod OriginLemmas
 pub mod FrameLemmas
+pub mod ReturnedLemmas

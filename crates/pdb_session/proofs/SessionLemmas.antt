@@ -230,7 +230,7 @@ front_twice first second third before after =
     (after.0 ∙ before.0, after.1 ∙ before.1, after.2 ∙ before.2, after.3 ∙ before.3, after.4 ∙ before.4)
 
 -- the owners of code are the same where the front of the records is
-owners_same : (old new : Records) → SameFront old new → owners_of new ≡ owners_of old
+pub owners_same : (old new : Records) → SameFront old new → owners_of new ≡ owners_of old
 owners_same old new (sections, address_map, symbols, debug, strings) =
     ap (λ (ranges : Result (List AddressRange) StreamError). record {
       address_map = result_unwrap_or ranges [];
